@@ -1,0 +1,50 @@
+-- Rectangles and moves as sets of points, after the API's RECT, POINT and DXGI_OUTDUPL_MOVE_RECT.
+use Rattle.std.specs.Prelude.{ℕ, ◌+◌, ◌-◌, ◌*◌, ◌≤◌, ℤ, pos, negsuc, ◌-ℤ◌, ◌+ℤ◌, int_le, int_lt, Bool, ◌&&◌, nat_le, nat_lt}
+use Rattle.dd_geom.specs.declared.rect.Point.{Point}
+use Rattle.dd_geom.specs.declared.rect.Rect.{Rect}
+use Rattle.dd_geom.specs.declared.rect.Move.{Move}
+use Rattle.dd_geom.specs.declared.rect.Sides.{Sides}
+use Rattle.dd_geom.specs.declared.rect.TheConstants.{MAX_SIDE, MAX_PIXELS}
+
+-- the points of a rectangle: right and bottom are exclusive
+abbrev pub covers : Rect → ℤ → ℤ → Bool
+covers r x y = int_le r.left x && int_lt x r.right && int_le r.top y && int_lt y r.bottom
+
+-- a span has at least one place, and all of its places among the first `length`
+abbrev pub spans_inside : ℤ → ℤ → ℕ → Bool
+spans_inside from to length = int_le (pos 0) from && int_lt from to && int_le to (pos length)
+
+-- a rectangle lies inside a surface
+abbrev pub is_inside : Rect → ℕ → ℕ → Bool
+is_inside r w h = spans_inside r.left r.right w && spans_inside r.top r.bottom h
+
+-- the sizes that a surface may have
+pub record IsSize (w h : ℕ) : Type 0 where
+  pub wide : 1 ≤ w
+  pub high : 1 ≤ h
+  pub width : w ≤ MAX_SIDE
+  pub height : h ≤ MAX_SIDE
+  pub pixels : w * h ≤ MAX_PIXELS
+
+-- a coordinate as a place of a row or column; what lies before the first is read as the first
+abbrev pub place : ℤ → ℕ
+place (pos n) = n
+place (negsuc n) = 0
+
+abbrev pub sides : Rect → Sides
+sides r = record { left = place r.left; top = place r.top; right = place r.right; bottom = place r.bottom }
+
+-- the points between four sides
+abbrev pub between : Sides → ℕ → ℕ → Bool
+between s x y = nat_le s.left x && nat_lt x s.right && nat_le s.top y && nat_lt y s.bottom
+
+-- the points of a surface that a rectangle covers
+abbrev pub has : Rect → ℕ → ℕ → Bool
+has r = between (sides r)
+
+-- four sides that lie inside a surface
+pub record AreInside (s : Sides) (w h : ℕ) : Type 0 where
+  pub across : s.left ≤ s.right
+  pub down : s.top ≤ s.bottom
+  pub right : s.right ≤ w
+  pub bottom : s.bottom ≤ h

@@ -1,0 +1,8 @@
+//! Points, rectangles and moves of a surface, and what is painted inside a rectangle.
+#![tactic(auto)]
+
+mod lists;
+mod rect;
+
+pub use lists::{Moves, Rects};
+pub use rect::{MAX_PIXELS, MAX_SIDE, Move, Point, Rect, Sides, rect_inside, sides_of};
