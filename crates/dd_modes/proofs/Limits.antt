@@ -1,0 +1,33 @@
+-- What the tests on modes say, as facts.
+use Rattle.std.proofs.Common.{◌≡◌, ℕ, ◌*◌, ◌<◌, ◌≤◌, true, List, [], ◌∷◌, length, nat_le, arith}
+use Rattle.std.specs.List.{list_all}
+use Rattle.std.proofs.lemmas.Bool.{and_parts}
+use Rattle.dd_geom.specs.Rect.{IsSize}
+use Rattle.dd_geom.specs.declared.rect.TheConstants.{MAX_SIDE, MAX_PIXELS}
+use Rattle.dd_modes.specs.declared.modes.Mode.{Mode}
+use Rattle.dd_modes.specs.declared.modes.TheConstants.{MAX_MODES}
+use Rattle.dd_modes.specs.Modes.{is_mode, are_modes, first_mode}
+use borrow.Author.Tests.{leb-true}
+
+-- a mode within the limits has a size that a surface may have
+pub size_of_mode : (m : Mode) → is_mode m ≡ true → IsSize m.width m.height
+unfolding is_mode
+size_of_mode m h =
+    let e = and_parts _ (nat_le (m.width * m.height) MAX_PIXELS) h in
+    let d = and_parts _ (nat_le m.height MAX_SIDE) e.0 in
+    let c = and_parts _ (nat_le 1 m.height) d.0 in
+    let b = and_parts (nat_le 1 m.width) (nat_le m.width MAX_SIDE) c.0 in
+    record {
+      wide = leb-true _ _ b.0;
+      high = leb-true _ _ c.1;
+      width = leb-true _ _ b.1;
+      height = leb-true _ _ d.1;
+      pixels = leb-true _ _ e.1;
+    }
+
+-- there is a first mode, and its size keeps the limits
+pub first_of_modes : (ms : List Mode) → are_modes ms ≡ true → (0 < length ms) × IsSize (first_mode ms).width (first_mode ms).height
+unfolding are_modes
+first_of_modes [] h = let a = and_parts _ (list_all is_mode []) h in let b = and_parts (nat_le 1 0) (nat_le 0 MAX_MODES) a.0 in absurd (let c : 1 ≤ 0 = leb-true 1 0 b.0 in omega arith)
+first_of_modes (m ∷ ms) h =
+    let a = and_parts _ (list_all is_mode (m ∷ ms)) h in (omega arith, size_of_mode m (and_parts (is_mode m) (list_all is_mode ms) a.1).0)

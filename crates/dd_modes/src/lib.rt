@@ -1,0 +1,6 @@
+//! The modes of an output: its sizes in pixels and how its picture is turned.
+#![tactic(auto)]
+
+mod modes;
+
+pub use modes::{MAX_MODES, Mode, Modes, Rotation};

@@ -1,0 +1,112 @@
+//! Modes, and the list of those that an output has.
+
+ghost use Rattle.std.specs.Prelude.{◌≡◌, IsTrue, if◌then◌else◌};
+ghost use Rattle.dd_geom.specs.Rect.{IsSize};
+ghost use Rattle.std.specs.List.{list_all};
+ghost use Rattle.dd_modes.specs.Modes.{is_mode, are_modes};
+
+use dd_geom::{MAX_PIXELS, MAX_SIDE};
+use std::marker::Model;
+
+/// The most modes of an output.
+pub const MAX_MODES: usize = 16;
+
+/// How the picture is turned for the viewer (the API's DXGI_MODE_ROTATION, numbers 0 to 4).
+#[derive(Clone, Copy, Debug, PartialEq, Eq, Hash)]
+pub enum Rotation {
+    Unspecified,
+    Identity,
+    Rotate90,
+    Rotate180,
+    Rotate270,
+}
+
+/// The size of a surface in pixels, and how its picture is turned.
+#[derive(Clone, Copy, Debug, PartialEq, Eq, Hash)]
+pub struct Mode {
+    pub width: u32,
+    pub height: u32,
+    pub rotation: Rotation,
+}
+
+impl Mode {
+    ghost use Rattle.dd_modes.specs.Modes.{is_mode};
+
+    /// Whether the size keeps the limits: sides of 1 to 8,192 and at most 16,777,216 pixels.
+    #[tactic(auto, unfolding(crate::specs::Modes::is_mode))]
+    pub fn is_within_limits(&self) -> bool
+        ensures { result ≡ is_mode self.now }
+    {
+        let (w, h) = (self.width, self.height);
+        1 <= w
+            && w <= MAX_SIDE
+            && 1 <= h
+            && h <= MAX_SIDE
+            && u64::from(w) * u64::from(h) <= u64::from(MAX_PIXELS)
+    }
+}
+
+/// Whether each of the modes keeps the limits.
+fn are_within_limits(modes: &[Mode]) -> bool
+    ensures { result ≡ list_all is_mode modes.now }
+{
+    modes.iter().all(|mode| mode.is_within_limits())
+}
+
+/// Whether an output may have these modes.
+#[tactic(auto, unfolding(crate::specs::Modes::are_modes))]
+fn fit_an_output(modes: &[Mode]) -> bool
+    ensures { result ≡ are_modes modes.now }
+{
+    1 <= modes.len() && modes.len() <= MAX_MODES && are_within_limits(modes)
+}
+
+/// The modes of an output: 1 to 16, each within the limits.
+#[derive(Debug, Drop)]
+pub struct Modes {
+    items: Vec<Mode>,
+}
+
+impl Model for Modes {
+    ghost use Rattle.std.specs.Prelude.{List, IsTrue};
+    ghost use Rattle.dd_modes.specs.declared.modes.Mode.{Mode};
+
+    ghost Value = { List Mode };
+
+    ghost use Rattle.dd_modes.specs.Modes.{are_modes};
+
+    ghost view = { λ m. m.items.items };
+
+    ghost invariant = { λ m. IsTrue (are_modes m.items.items) };
+}
+
+impl Modes {
+    ghost use Rattle.dd_modes.specs.Modes.{are_modes, first_mode};
+
+    /// The modes of a vector, in its order and on its memory; none where there are not 1 to 16,
+    /// or one of them is past the limits.
+    pub fn from_vec(items: Vec<Mode>) -> Option<Modes>
+        ensures { result ≡ (if are_modes items.items then Some items.items else None) }
+    {
+        if fit_an_output(items.as_slice()) {
+            Some(Modes { items })
+        } else {
+            None
+        }
+    }
+
+    pub fn as_slice(&self) -> &[Mode]
+        ensures value { result.now ≡ self.now }
+        ensures modes { IsTrue (are_modes self.now) }
+    {
+        self.items.as_slice()
+    }
+
+    /// The mode that an output begins with.
+    pub fn first(&self) -> Mode
+        ensures value { result ≡ first_mode self.now }
+        ensures size { IsSize result.width result.height }
+    {
+        self.items[0]
+    }
+}
