@@ -1,0 +1,103 @@
+//! The plain types of answers.
+
+use crate::lists::Rows;
+use dd_geom::{Moves, Point, Rects};
+use dd_io::Bytes;
+use dd_modes::Mode;
+use thiserror::Error;
+
+/// How many duplicators of one output may be open at once.
+pub const MAX_DUPLICATORS: u32 = 4;
+
+/// Where the pointer is, and whether it is shown.
+#[derive(Clone, Copy, Debug, PartialEq, Eq)]
+pub struct Pointer {
+    pub position: Point,
+    pub visible: bool,
+}
+
+/// What is told of an acquired frame (the API's DXGI_OUTDUPL_FRAME_INFO).
+#[derive(Clone, Copy, Debug, PartialEq, Eq)]
+pub struct FrameInfo {
+    /// The event number, from 1, of the interval's last present, else 0 (LastPresentTime).
+    pub last_present: u64,
+    /// The event number of the last pointer or shape, else 0 (LastMouseUpdateTime).
+    pub last_mouse: u64,
+    /// The number of presents since the frame before (AccumulatedFrames).
+    pub accumulated: u32,
+    /// Whether the dirty rectangles were rounded (RectsCoalesced).
+    pub coalesced: bool,
+    /// Whether some point of the desktop is hidden (ProtectedContentMaskedOut).
+    pub protected: bool,
+    pub pointer: Pointer,
+    /// The bytes of the moves and the dirty rectangles together (TotalMetadataBufferSize).
+    pub meta_size: u32,
+    /// The bytes of the new shape, else 0 (PointerShapeBufferSize).
+    pub shape_size: u32,
+}
+
+/// Why a drawing wasn't appended to the list.
+#[derive(Clone, Copy, Debug, PartialEq, Eq, Error)]
+pub enum LogRefusal {
+    #[error("the list is full")]
+    Full,
+    /// Operation number `op`, from 0, is the first that doesn't fit the mode.
+    #[error("operation {op} doesn't fit the mode")]
+    BadRect { op: u32 },
+}
+
+/// Why a duplicator wasn't opened.
+#[derive(Clone, Copy, Debug, PartialEq, Eq, Error)]
+pub enum OpenRefusal {
+    #[error("the application already duplicates the output")]
+    AlreadyDuplicating,
+    #[error("four duplicators are open")]
+    NotAvailable,
+    #[error("the list is full")]
+    Full,
+}
+
+/// Why a duplicator refused a call.
+#[derive(Clone, Copy, Debug, PartialEq, Eq, Error)]
+pub enum DupRefusal {
+    /// A frame is held where there may be none, or none where there must be one.
+    #[error("the call doesn't fit the duplicator's state")]
+    InvalidCall,
+    /// Nothing is new.
+    #[error("nothing is new")]
+    WaitTimeout,
+    #[error("out of memory")]
+    OutOfMemory,
+}
+
+/// The answer to one step.
+#[derive(Debug, Drop)]
+pub enum Answer {
+    /// The drawing is the entry of this event number, from 1.
+    Entered {
+        entry: u64,
+    },
+    NotDrawn(LogRefusal),
+    /// The duplicator's opening is the entry of this event number, and it has this slot, 0 to 3.
+    Opened {
+        entry: u64,
+        slot: u32,
+    },
+    NotOpened(OpenRefusal),
+    Frame {
+        info: FrameInfo,
+        moves: Moves,
+        dirt: Rects,
+    },
+    Released,
+    /// The rows of the acquired surface; none where no frame is held.
+    Surface(Option<Rows>),
+    Desc(Mode),
+    Refused {
+        refusal: DupRefusal,
+        /// The whole buffer of a call that was given one.
+        buffer: Option<Bytes>,
+    },
+    /// The client has no duplicator.
+    NoDuplicator,
+}

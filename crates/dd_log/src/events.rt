@@ -1,0 +1,48 @@
+//! The events of an output's list.
+
+use crate::lists::Apps;
+use dd_modes::Modes;
+use dd_ops::Ops;
+
+/// One past the greatest number of an actor.
+pub const MAX_ACTORS: u32 = 64;
+
+/// What an output is begun with.
+#[derive(Debug, Drop)]
+pub struct Spec {
+    /// Its modes; it begins with the first.
+    pub modes: Modes,
+    /// How many entries the list may have in all, the one kept for its end included:
+    /// 1 to 1,048,576.
+    pub capacity: u32,
+    /// The applications that may duplicate a secure desktop.
+    pub privileged: Apps,
+}
+
+/// What drawing actors do.
+#[derive(Debug, Drop)]
+pub enum Draw {
+    /// Draws 0 to 64 operations, in their order.
+    Present(Ops),
+}
+
+/// One event of the list.
+#[derive(Debug, Drop)]
+pub enum Event {
+    Draw(Draw),
+    /// A duplicator was opened in a slot, 0 to 3, for an application.
+    Opened {
+        slot: u32,
+        app: u32,
+    },
+}
+
+/// One entry of the list: whose step it is, and what happened.
+#[derive(Debug, Drop)]
+pub struct Entry {
+    /// Below 64.
+    pub actor: u32,
+    /// Greater than each earlier step of the same actor, from 1.
+    pub step: u32,
+    pub event: Event,
+}

@@ -1,0 +1,15 @@
+//! The one list of an output's events, its desk, and the plain types of answers.
+#![tactic(auto)]
+
+mod answers;
+mod events;
+mod lists;
+mod places;
+mod storage;
+
+pub use answers::{
+    Answer, DupRefusal, FrameInfo, LogRefusal, MAX_DUPLICATORS, OpenRefusal, Pointer,
+};
+pub use events::{Draw, Entry, Event, MAX_ACTORS, Spec};
+pub use lists::{Apps, Rows};
+pub use storage::Log;
