@@ -1,0 +1,3 @@
+-- The words that the contracts of the outside cite.
+pub mod Causes
+pub mod Transfer
