@@ -31,10 +31,7 @@ pub enum Draw {
 pub enum Event {
     Draw(Draw),
     /// A duplicator was opened in a slot, 0 to 3, for an application.
-    Opened {
-        slot: u32,
-        app: u32,
-    },
+    Opened { slot: u32, app: u32 },
 }
 
 /// One entry of the list: whose step it is, and what happened.

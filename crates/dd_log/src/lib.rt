@@ -4,7 +4,6 @@
 mod answers;
 mod events;
 mod lists;
-mod places;
 mod storage;
 
 pub use answers::{
