@@ -3,7 +3,6 @@
 use crate::lists::Rows;
 use dd_geom::{Moves, Point, Rects};
 use dd_io::Bytes;
-use dd_modes::Mode;
 use thiserror::Error;
 
 /// How many duplicators of one output may be open at once.
@@ -92,7 +91,6 @@ pub enum Answer {
     Released,
     /// The rows of the acquired surface; none where no frame is held.
     Surface(Option<Rows>),
-    Desc(Mode),
     Refused {
         refusal: DupRefusal,
         /// The whole buffer of a call that was given one.

@@ -1,0 +1,2 @@
+//! Scripts from JSON, and answers as lines of JSON.
+#![tactic(auto)]

@@ -1,0 +1,75 @@
+//! The steps of a script.
+
+ghost use Rattle.std.specs.Prelude.{◌≡◌};
+
+use dd_log::{Apps, Draw, Spec};
+use std::marker::Model;
+
+/// What a client asks of its duplicator.
+#[derive(Clone, Copy, Debug, PartialEq, Eq)]
+pub enum ClientCall {
+    /// Opens a duplicator (the API's DuplicateOutput).
+    Duplicate,
+    /// Acquires a frame (AcquireNextFrame). In one list of steps a timeout isn't looked at.
+    Acquire { timeout: u32 },
+    /// Releases the frame (ReleaseFrame).
+    Release,
+    /// Asks for the rows of the acquired surface.
+    Surface,
+}
+
+/// One step.
+#[derive(Debug, Drop)]
+pub enum Step {
+    /// A drawing.
+    Draw(Draw),
+    /// A call of a client, numbered from 1.
+    Call { client: u32, call: ClientCall },
+}
+
+/// A list of steps.
+#[derive(Debug, Drop)]
+pub struct Steps {
+    items: Vec<Step>,
+}
+
+impl Model for Steps {
+    ghost use Rattle.std.specs.Prelude.{List};
+    ghost use Rattle.dd_station.specs.declared.steps.Step.{Step};
+
+    ghost Value = { List Step };
+
+    ghost view = { λ s. s.items.items };
+}
+
+impl Steps {
+    /// The steps of a vector, in its order and on its memory.
+    pub fn from_vec(items: Vec<Step>) -> Steps
+        ensures { result ≡ items.items }
+    {
+        Steps { items }
+    }
+
+    /// The vector itself.
+    pub fn into_vec(self) -> Vec<Step>
+        ensures { result.items ≡ self }
+    {
+        let Steps { items } = self;
+        items
+    }
+
+    pub fn as_slice(&self) -> &[Step]
+        ensures { result.now ≡ self.now }
+    {
+        self.items.as_slice()
+    }
+}
+
+/// What an output is begun with, its clients and their steps.
+#[derive(Debug, Drop)]
+pub struct Script {
+    pub spec: Spec,
+    /// Client k, from 1, has the k-th application.
+    pub clients: Apps,
+    pub steps: Steps,
+}
