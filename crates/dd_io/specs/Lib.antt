@@ -1,3 +1,4 @@
 -- The words that the contracts of the outside cite.
 pub mod Causes
 pub mod Transfer
+pub mod Memory

@@ -3,12 +3,20 @@
 
 mod fault;
 mod lists;
+mod mem;
+mod schedule;
 mod sink;
 mod source;
+mod std_io;
 mod transfer;
 
 pub use fault::{Failed, ReadUpFault};
 pub use lists::{Bytes, Numbers};
+pub use mem::{MemSink, MemSource};
 pub use sink::Sink;
 pub use source::Source;
+pub use std_io::{StdSink, StdSource};
 pub use transfer::{read_up_to, write_all};
+
+#[cfg(test)]
+mod tests;

@@ -1,0 +1,2 @@
+-- Lemmas on transfers of many pieces.
+pub mod Pieces
