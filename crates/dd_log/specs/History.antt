@@ -1,9 +1,9 @@
 -- The one list of an output's events: what it is begun with, its entries, and which lists are legal.
 use Rattle.std.specs.Prelude.{ℕ, ◌+◌, ◌≤◌, ◌≡◌, nat_lt, nat_le, ◌==◌, Bool, true, false, ◌&&◌, not, if◌then◌else◌, List, [], ◌∷◌, ◌++◌, length, take, fold, replicate, slice_get, slice_set, Option, Some, None, is_none, option_map, Result, Ok, Err}
-use Rattle.std.specs.List.{list_any}
+use Rattle.std.specs.List.{list_any, list_all}
 use Rattle.dd_modes.specs.declared.modes.Mode.{Mode}
 use Rattle.dd_modes.specs.Modes.{first_mode}
-use Rattle.dd_ops.specs.Operations.{first_unfit}
+use Rattle.dd_ops.specs.Operations.{first_unfit, all_fit}
 use Rattle.dd_log.specs.declared.events.Spec.{Spec}
 use Rattle.dd_log.specs.declared.events.Entry.{Entry}
 use Rattle.dd_log.specs.declared.events.Event.{Event}
@@ -45,11 +45,12 @@ abbrev pub last_step : List Entry → ℕ → ℕ
 last_step es actor = fold (λ last e. if e.actor == actor then e.step else last) 0 es
 
 -- the applications of the four slots, after one event more
+abbrev pub changed_slots : List (Option ℕ) → Event → List (Option ℕ)
+changed_slots slots (events.Draw d) = slots
+changed_slots slots (Opened slot app) = slice_set slots slot (Some app)
+
 abbrev pub slots_after : List (Option ℕ) → Entry → List (Option ℕ)
-slots_after slots e = change slots e.event where
-  change : List (Option ℕ) → Event → List (Option ℕ)
-  change slots (events.Draw d) = slots
-  change slots (Opened slot app) = slice_set slots slot (Some app)
+slots_after slots e = changed_slots slots e.event
 
 abbrev pub slots : List Entry → List (Option ℕ)
 slots es = fold slots_after (replicate 4 None) es
@@ -71,6 +72,14 @@ abbrev pub refusal : History → Event → Option LogRefusal
 refusal h (events.Draw d) = allowed h d
 refusal h (Opened slot app) = if is_full h then Some Full else None
 
+-- an event draws only what fits a surface of this size
+abbrev pub event_fits : ℕ → ℕ → Event → Bool
+event_fits w h (events.Draw (Present ops)) = all_fit w h ops
+event_fits w h (Opened slot app) = true
+
+unfoldable pub entries_fit : ℕ → ℕ → List Entry → Bool
+entries_fit w h es = list_all (λ e. event_fits w h e.event) es
+
 -- a slot that is free
 abbrev pub is_free : Option (Option ℕ) → Bool
 is_free (Some None) = true
@@ -81,6 +90,11 @@ is_free None = false
 abbrev pub opens_freely : List (Option ℕ) → Event → Bool
 opens_freely open_slots (events.Draw d) = true
 opens_freely open_slots (Opened slot app) = is_free (slice_get open_slots slot) && not (list_any (is_app app) open_slots)
+
+-- the answer to an entry that a cause may refuse
+abbrev pub verdict : Option LogRefusal → Result (Unit {0}) LogRefusal
+verdict None = Ok tt
+verdict (Some cause) = Err cause
 
 -- the list with this entry more is legal where the list is
 unfoldable pub may_add : History → Entry → Bool

@@ -5,9 +5,6 @@ use dd_geom::{Moves, Point, Rects};
 use dd_io::Bytes;
 use thiserror::Error;
 
-/// How many duplicators of one output may be open at once.
-pub const MAX_DUPLICATORS: u32 = 4;
-
 /// Where the pointer is, and whether it is shown.
 #[derive(Clone, Copy, Debug, PartialEq, Eq)]
 pub struct Pointer {

@@ -7,6 +7,9 @@ use dd_ops::Ops;
 /// One past the greatest number of an actor.
 pub const MAX_ACTORS: u32 = 64;
 
+/// The most entries of a list.
+pub const MAX_CAPACITY: u32 = 1_048_576;
+
 /// What an output is begun with.
 #[derive(Debug, Drop)]
 pub struct Spec {

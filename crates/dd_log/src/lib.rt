@@ -6,9 +6,7 @@ mod events;
 mod lists;
 mod storage;
 
-pub use answers::{
-    Answer, DupRefusal, FrameInfo, LogRefusal, MAX_DUPLICATORS, OpenRefusal, Pointer,
-};
-pub use events::{Draw, Entry, Event, MAX_ACTORS, Spec};
+pub use answers::{Answer, DupRefusal, FrameInfo, LogRefusal, OpenRefusal, Pointer};
+pub use events::{Draw, Entry, Event, MAX_ACTORS, MAX_CAPACITY, Spec};
 pub use lists::{Apps, Rows};
-pub use storage::Log;
+pub use storage::{Log, MAX_DUPLICATORS};

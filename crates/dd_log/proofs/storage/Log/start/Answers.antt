@@ -1,0 +1,15 @@
+use Rattle.std.proofs.Common.{◌≡◌, ◌≤◌, true, refl, arith, rules, [], IsTrue}
+use Rattle.dd_log.specs.History.{legal, slots}
+use Rattle.dd_log.proofs.storage.Log.start.Goals as goal
+
+pub invariant_of-result : goal.invariant_of-result
+unfolding legal
+invariant_of-result c =
+    record {
+      legal = rw c.in_ok-entries.ensures.items refl;
+      slots = rw c.in_ok-entries.ensures.items refl;
+      some = c.requires.some;
+      few = c.requires.few;
+      room = omega (arith, c.in_ok-entries.ensures.exact);
+      within = omega (arith, c.in_ok-entries.ensures.len);
+    }
