@@ -1,3 +1,4 @@
+-- The piece that goes past the limit, and the piece for which there was no memory.
 use Rattle.std.proofs.Common.{arith}
 use Rattle.dd_io.proofs.Pieces.{GivesAtMost-piece, GivesMoreThan-piece}
 use Rattle.dd_io.proofs.transfer.read_up_to.Goals as goal

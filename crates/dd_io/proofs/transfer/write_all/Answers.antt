@@ -1,3 +1,4 @@
+-- What a failed call leaves, and one more piece.
 use Rattle.std.proofs.Common.{◌++◌, take, arith}
 use Rattle.std.proofs.KnownBytes.{Appends-trans}
 use Rattle.std.proofs.lemmas.Grind.{common_steps}
