@@ -16,7 +16,7 @@ pub use mem::{MemSink, MemSource};
 pub use sink::Sink;
 pub use source::Source;
 pub use std_io::{StdSink, StdSource};
-pub use transfer::{read_up_to, write_all};
+pub use transfer::{CHUNK, read_up_to, write_all};
 
 #[cfg(test)]
 mod tests;

@@ -2,13 +2,10 @@
 ghost use Rattle.std.specs.Prelude.{◌≡◌, ℕ, ◌≤◌, None, OnErr, OnOk, IfOk, length};
 ghost use Rattle.dd_io.specs.Memory.{risen};
 
-use crate::{Failed, Sink, Source};
+use crate::{CHUNK, Failed, Sink, Source};
 use std::io;
 use std::io::{ErrorKind, Read, Write};
 use std::marker::Model;
-
-// How many bytes one read asks the reader for.
-const CHUNK: usize = 4096;
 
 // How often a call is tried that a signal interrupts before it moves a byte.
 const TRIES: usize = 64;
@@ -16,7 +13,7 @@ const TRIES: usize = 64;
 /// A reader as a source. It tells nothing of the bytes, and counts its faults.
 ///
 /// A read that a signal interrupts is tried again, up to 64 times.
-#[derive(Drop)]
+#[derive(Debug, Drop)]
 pub struct StdSource<R: Read + Drop> {
     reader: R,
     faults: u64,
@@ -65,7 +62,7 @@ impl<R: Read + Drop> Source for StdSource<R> {
 ///
 /// A write that a signal interrupts is tried again, up to 64 times. A writer that takes nothing
 /// of a nonempty piece has failed.
-#[derive(Drop)]
+#[derive(Debug, Drop)]
 pub struct StdSink<W: Write + Drop> {
     writer: W,
     faults: u64,
