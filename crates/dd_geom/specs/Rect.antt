@@ -1,8 +1,6 @@
 -- Rectangles and moves as sets of points, after the API's RECT, POINT and DXGI_OUTDUPL_MOVE_RECT.
-use Rattle.std.specs.Prelude.{ℕ, ◌+◌, ◌-◌, ◌*◌, ◌≤◌, ℤ, pos, negsuc, ◌-ℤ◌, ◌+ℤ◌, int_le, int_lt, Bool, ◌&&◌, nat_le, nat_lt}
-use Rattle.dd_geom.specs.declared.rect.Point.{Point}
+use Rattle.std.specs.Prelude.{ℕ, ◌*◌, ◌≤◌, ℤ, pos, negsuc, int_le, int_lt, Bool, ◌&&◌, nat_le, nat_lt}
 use Rattle.dd_geom.specs.declared.rect.Rect.{Rect}
-use Rattle.dd_geom.specs.declared.rect.Move.{Move}
 use Rattle.dd_geom.specs.declared.rect.Sides.{Sides}
 use Rattle.dd_geom.specs.declared.rect.TheConstants.{MAX_SIDE, MAX_PIXELS}
 
