@@ -1,2 +1,4 @@
+pub mod RunEnd
 pub mod RowRuns
+pub mod Cover
 pub mod Examples

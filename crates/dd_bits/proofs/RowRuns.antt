@@ -1,8 +1,10 @@
 -- The runs of a row, found one after another: what is left to find from a column on.
-use Rattle.std.proofs.Common.{◌≡◌, ◌≢◌, ℕ, zero, suc, ◌+◌, ◌-◌, ◌<◌, ◌≤◌, List, [], ◌∷◌, ◌++◌, Bool, true, false, not, cond, ◌&&◌, nat_lt, refl, sym, ap, ◌∙◌, arith, length, append_assoc}
+use Rattle.std.proofs.Common.{◌≡◌, ◌≢◌, ℕ, zero, suc, ◌+◌, ◌-◌, ◌<◌, ◌≤◌, List, [], ◌∷◌, ◌++◌, Bool, true, false, not, cond, ◌&&◌, nat_lt, if◌then◌else◌, refl, sym, ap, ◌∙◌, arith, append_assoc, rules, tests, inl, inr}
+use Rattle.std.proofs.lemmas.List.{append-nil}
+use Rattle.std.proofs.lemmas.Bool.{cases_lt, false≢true}
 use Rattle.std.specs.List.{flat_map, range_with_len}
-use Rattle.std.proofs.lemmas.Bool.Decides.{nat_tests}
 use Rattle.dd_geom.specs.declared.rect.Rect.{Rect}
+use Rattle.dd_bits.proofs.RunEnd.{if_true, if_false, run_end-suc, run_end-here}
 use Rattle.dd_bits.specs.Runs.{run_end, starts_run, row_rect, run_at, row_runs, HasNone, IsRun}
 
 -- the runs that start at the columns k to k + n - 1
@@ -23,18 +25,71 @@ no_start : (p : ℕ → Bool) (x : ℕ) → p x ≡ false → starts_run p x ≡
 no_start p x e = rw e refl
 
 inner_start : (p : ℕ → Bool) (x : ℕ) → 0 < x → p (x - 1) ≡ true → starts_run p x ≡ false
-inner_start p x l e = elim (p x) as (λ b. (b && not (nat_lt 0 x && p (x - 1))) ≡ false) [ true ↦ grind (arith, nat_tests) | false ↦ refl ]
+inner_start p x l e =
+    let t : nat_lt 0 x ≡ true = search (rules, tests) in
+    elim (p x) as (λ b. (b && not (nat_lt 0 x && p (x - 1))) ≡ false) [ true ↦ rw (t, e) refl | false ↦ refl ]
+
+first_start : (p : ℕ → Bool) (x : ℕ) → p x ≡ true → (0 < x → p (x - 1) ≡ false) → starts_run p x ≡ true
+first_start p zero e h = rw e refl
+first_start p (suc x) e h = rw (e, h (omega arith)) (search (rules, tests))
 
 -- columns at which no run starts may be left out
-pub skip : (p : ℕ → Bool) (w y i k n j m : ℕ) → j ≡ k + i → n ≡ i + m → ((x : ℕ) → k ≤ x → x < j → starts_run p x ≡ false) → runs_from p w y k n ≡ runs_from p w y j m
-skip p w y zero k n j m e f h = ?
+skip : (p : ℕ → Bool) (w y i k n j m : ℕ) → j ≡ k + i → n ≡ i + m → ((x : ℕ) → k ≤ x → x < j → starts_run p x ≡ false) → runs_from p w y k n ≡ runs_from p w y j m
+skip p w y zero k n j m e f h =
+    let a : k ≡ j = omega arith in
+    let b : n ≡ m = omega arith in
+    ap (λ v. runs_from p w y v n) a ∙ ap (runs_from p w y j) b
 skip p w y (suc i) k zero j m e f h = absurd (omega arith)
-skip p w y (suc i) k (suc n) j m e f h = ?
+skip p w y (suc i) k (suc n) j m e f h =
+    ap (λ v. v ++ runs_from p w y (k + 1) n) (if_false (starts_run p k) _ _ (h k (omega arith) (omega arith))) ∙ skip p w y i (k + 1) n j m (omega arith) (omega arith) (λ x a b. h x (omega arith) b)
 
 -- a run ends where its columns do
-pub run_end_is : (p : ℕ → Bool) (i n k j : ℕ) → j ≡ k + i → i ≤ n → ((x : ℕ) → k ≤ x → x < j → p x ≡ true) → p j ≡ false → run_end p k n ≡ j
+run_end_is : (p : ℕ → Bool) (i n k j : ℕ) → j ≡ k + i → i ≤ n → ((x : ℕ) → k ≤ x → x < j → p x ≡ true) → p j ≡ false → run_end p k n ≡ j
 unfolding run_end
 run_end_is p zero zero k j e l h f = omega arith
-run_end_is p zero (suc n) k j e l h f = ?
+run_end_is p zero (suc n) k j e l h f =
+    let a : k ≡ j = omega arith in run_end-here p k n (ap p a ∙ f) ∙ a
 run_end_is p (suc i) zero k j e l h f = absurd (omega arith)
-run_end_is p (suc i) (suc n) k j e l h f = ?
+run_end_is p (suc i) (suc n) k j e l h f =
+    run_end-suc p k n (h k (omega arith) (omega arith)) ∙ run_end_is p i n (k + 1) j (omega arith) (omega arith) (λ x a b. h x (omega arith) b) f
+
+-- a run that starts at its left column gives one rectangle
+one_run : (p : ℕ → Bool) (w y left right : ℕ) → starts_run p left ≡ true → IsRun p left right → right ≤ w → run_at p w y left ≡ row_rect y left right ∷ []
+one_run p w y left right s r l =
+    let a : run_end p left (w - left) ≡ right = run_end_is p (right - left) (w - left) left right (omega arith) (omega arith) r.marked r.end in
+    if_true (starts_run p left) _ _ s ∙ ap (λ e. row_rect y left e ∷ []) a
+
+unmarked_before : (p : ℕ → Bool) (from left : ℕ) → (0 < from → p from ≡ false) → HasNone p true from left → from ≤ left → p left ≡ true → 0 < left → p (left - 1) ≡ false
+unmarked_before p from left fresh none l at_left h =
+    elim (cases_lt from left) [
+        inl a ↦ not_true (p (left - 1)) (none (left - 1) (omega arith) (omega arith))
+      | inr b ↦
+            let same : from ≡ left = omega arith in
+            let no : p from ≡ false = fresh (omega arith) in
+            absurd (false≢true (sym no ∙ ap p same ∙ at_left))
+    ]
+
+-- what is left to find begins with the first run
+first_run : (p : ℕ → Bool) (w y from left right : ℕ) → (0 < from → p from ≡ false) → HasNone p true from left → IsRun p left right → from ≤ left → right ≤ w → runs_from p w y from (w - from) ≡ row_rect y left right ∷ runs_from p w y right (w - right)
+first_run p w y from left right fresh none r l u =
+    let at_left : p left ≡ true = r.marked left (omega arith) (omega (arith, r.some)) in
+    let above : 0 < left → p (left - 1) ≡ false = unmarked_before p from left fresh none l at_left in
+    let start : starts_run p left ≡ true = first_start p left at_left above in
+    let rest : w - left ≡ suc (w - left - 1) = omega (arith, r.some) in
+    skip p w y (left - from) from (w - from) left (w - left) (omega arith) (omega (arith, r.some)) (λ x a b. no_start p x (not_true (p x) (none x a b)))
+    ∙ ap (runs_from p w y left) rest
+    ∙ ap (λ v. v ++ runs_from p w y (left + 1) (w - left - 1)) (one_run p w y left right start r u)
+    ∙ ap (λ v. row_rect y left right ∷ v) (skip p w y (right - left - 1) (left + 1) (w - left - 1) right (w - right) (omega (arith, r.some)) (omega (arith, r.some)) (λ x a b. inner_start p x (omega arith) (r.marked (x - 1) (omega arith) (omega arith))))
+
+-- one more run is found
+pub IsDone-more : (p : ℕ → Bool) (w y from left right : ℕ) (before now next : List Rect) → IsDone p w y from before now → HasNone p true from left → IsRun p left right → from ≤ left → right ≤ w → next ≡ now ++ row_rect y left right ∷ [] → IsDone p w y right before next
+IsDone-more p w y from left right before now next d none r l u e = record {
+  within = u;
+  fresh = λ _. r.end;
+  so_far = ap (λ v. v ++ runs_from p w y right (w - right)) e ∙ append_assoc now (row_rect y left right ∷ []) (runs_from p w y right (w - right)) ∙ ap (λ v. now ++ v) (sym (first_run p w y from left right d.fresh none r l u)) ∙ d.so_far;
+}
+
+-- no run is left
+pub IsDone-all : (p : ℕ → Bool) (w y from : ℕ) (before now : List Rect) → IsDone p w y from before now → HasNone p true from w → now ≡ before ++ row_runs p w y
+IsDone-all p w y from before now d none =
+    sym (append-nil now) ∙ ap (λ v. now ++ v) (sym (skip p w y (w - from) from (w - from) w 0 (omega (arith, d.within)) (omega arith) (λ x a b. no_start p x (not_true (p x) (none x a b))))) ∙ d.so_far

@@ -2,6 +2,8 @@
 #![tactic(auto)]
 
 mod area;
+mod laws;
 mod runs;
 
 pub use area::Area;
+pub use laws::{runs_cover, runs_inside};

@@ -1,6 +1,6 @@
-use Rattle.std.proofs.Common.{◌≡◌, ◌-◌, ◌++◌, length}
-use Rattle.dd_bits.specs.Runs.{cell_at, row_runs}
-use Rattle.dd_bits.proofs.RowRuns.{runs_from, IsFresh, IsDone}
+use Rattle.std.proofs.Common.{◌-◌, length}
+use Rattle.dd_bits.specs.Runs.{cell_at}
+use Rattle.dd_bits.proofs.RowRuns.{IsDone}
 use Rattle.dd_bits.proofs.runs.push_runs.Given as goal
 
 abbrev pub invariant-loop-run : goal.invariant-loop-run
