@@ -2,7 +2,9 @@
 #![tactic(auto)]
 
 mod lists;
+mod painting;
 mod rect;
 
 pub use lists::{Moves, Rects};
+pub use painting::paint;
 pub use rect::{MAX_PIXELS, MAX_SIDE, Move, Point, Rect, Sides, rect_inside, sides_of};
