@@ -21,7 +21,7 @@ not_true : (b : Bool) → b ≢ true → b ≡ false
 not_true true h = absurd (h refl)
 not_true false h = refl
 
-no_start : (p : ℕ → Bool) (x : ℕ) → p x ≡ false → starts_run p x ≡ false
+pub no_start : (p : ℕ → Bool) (x : ℕ) → p x ≡ false → starts_run p x ≡ false
 no_start p x e = rw e refl
 
 inner_start : (p : ℕ → Bool) (x : ℕ) → 0 < x → p (x - 1) ≡ true → starts_run p x ≡ false

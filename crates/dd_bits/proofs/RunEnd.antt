@@ -27,7 +27,8 @@ pub record IsEnd (p : ℕ → Bool) (k n e : ℕ) : Type 0 where
 end_here : (p : ℕ → Bool) (k n e : ℕ) → e ≡ k → IsEnd p k n e
 end_here p k n e h = record { from = omega arith; within = omega arith; marked = λ x a b. absurd (omega arith) }
 
-end_further : (p : ℕ → Bool) (k n e : ℕ) → p k ≡ true → IsEnd p (k + 1) n e → IsEnd p k (suc n) e
+-- one marked column further in front
+pub end_further : (p : ℕ → Bool) (k n e : ℕ) → p k ≡ true → IsEnd p (k + 1) n e → IsEnd p k (suc n) e
 end_further p k n e m d = record {
   from = omega (arith, d.from);
   within = omega (arith, d.within);

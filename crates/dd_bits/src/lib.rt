@@ -3,7 +3,9 @@
 
 mod area;
 mod laws;
+mod plane;
 mod runs;
 
 pub use area::Area;
 pub use laws::{runs_cover, runs_inside};
+pub use plane::Plane;
