@@ -9,8 +9,8 @@ use Rattle.dd_geom.specs.Rect.{has, is_inside}
 use Rattle.dd_geom.specs.Grid.{Grid}
 use Rattle.dd_geom.proofs.GridLemmas.{value_at-right, value_at-below}
 use Rattle.dd_bits.specs.Area.{is_in}
-use Rattle.dd_bits.specs.Runs.{run_end, starts_run, row_rect, run_at, row_runs, runs}
-use Rattle.dd_bits.proofs.RowRuns.{runs_from, no_start}
+use Rattle.dd_bits.specs.Runs.{run_end, starts_run, row_rect, run_at, runs}
+use Rattle.dd_bits.proofs.RowRuns.{runs_from, no_start, row_of}
 use Rattle.dd_bits.proofs.RunEnd.{if_true, if_false, run_end-suc, run_end-here, IsEnd, end_further, run_end-IsEnd}
 
 -- how many rectangles of a list cover a point
@@ -140,9 +140,6 @@ other_row : (p : ℕ → Bool) (w x y r n k : ℕ) → r ≢ y → covering x y 
 other_row p w x y r zero k other = refl
 other_row p w x y r (suc n) k other =
     both_none x y (run_at p w r k) _ (covering-if (starts_run p k) x y _ (has-other x y r k _ other)) (other_row p w x y r n (k + 1) other)
-
-abbrev row_of : Grid Bool → ℕ → List Rect
-row_of g y = row_runs (λ x. is_in g x y) g.width y
 
 rows_none : (g : Grid Bool) (x y n a : ℕ) → ((r : ℕ) → a ≤ r → r < a + n → r ≢ y) → covering x y (flat_map (row_of g) (range_with_len a n)) ≡ 0
 rows_none g x y zero a other = refl

@@ -1,15 +1,26 @@
 -- The runs of a row, found one after another: what is left to find from a column on.
-use Rattle.std.proofs.Common.{◌≡◌, ◌≢◌, ℕ, zero, suc, ◌+◌, ◌-◌, ◌<◌, ◌≤◌, List, [], ◌∷◌, ◌++◌, Bool, true, false, not, cond, ◌&&◌, nat_lt, if◌then◌else◌, refl, sym, ap, ◌∙◌, arith, append_assoc, rules, tests, inl, inr}
-use Rattle.std.proofs.lemmas.List.{append-nil}
+use Rattle.std.proofs.Common.{◌≡◌, ◌≢◌, ℕ, zero, suc, ◌+◌, ◌-◌, ◌<◌, ◌≤◌, List, [], ◌∷◌, ◌++◌, Bool, true, false, not, cond, ◌&&◌, nat_lt, if◌then◌else◌, refl, sym, ap, ◌∙◌, arith, append_assoc, add-one, zero-add, length, ◌*◌, rules, tests, inl, inr}
+use Rattle.std.proofs.Math.Path.{fun_ext}
+use Rattle.std.proofs.lemmas.List.{append-nil, get_or-take, get_or-drop, get_or_past}
 use Rattle.std.proofs.lemmas.Bool.{cases_lt, false≢true}
 use Rattle.std.specs.List.{flat_map, range_with_len}
 use Rattle.dd_geom.specs.declared.rect.Rect.{Rect}
 use Rattle.dd_bits.proofs.RunEnd.{if_true, if_false, run_end-suc, run_end-here}
-use Rattle.dd_bits.specs.Runs.{run_end, starts_run, row_rect, run_at, row_runs, HasNone, IsRun}
+use Rattle.dd_geom.specs.Grid.{Grid, row}
+use Rattle.dd_geom.proofs.GridLemmas.{value_at-place, value_at-right}
+use Rattle.dd_bits.specs.Area.{is_in}
+use Rattle.dd_bits.specs.Runs.{run_end, starts_run, row_rect, run_at, row_runs, runs, cell_at, HasNone, IsRun}
 
 -- the runs that start at the columns k to k + n - 1
 abbrev pub runs_from : (ℕ → Bool) → ℕ → ℕ → ℕ → ℕ → List Rect
 runs_from p w y k n = flat_map (run_at p w y) (range_with_len k n)
+
+-- the runs of one row of a set, and those of the rows above row n
+abbrev pub row_of : Grid Bool → ℕ → List Rect
+row_of g y = row_runs (λ x. is_in g x y) g.width y
+
+abbrev pub rows_above : Grid Bool → ℕ → List Rect
+rows_above g n = flat_map (row_of g) (range_with_len 0 n)
 
 -- the columns before k are done with, and no run goes on over k
 pub record IsDone (p : ℕ → Bool) (w y k : ℕ) (before now : List Rect) : Type 0 where
@@ -93,3 +104,39 @@ IsDone-more p w y from left right before now next d none r l u e = record {
 pub IsDone-all : (p : ℕ → Bool) (w y from : ℕ) (before now : List Rect) → IsDone p w y from before now → HasNone p true from w → now ≡ before ++ row_runs p w y
 IsDone-all p w y from before now d none =
     sym (append-nil now) ∙ ap (λ v. now ++ v) (sym (skip p w y (w - from) from (w - from) w 0 (omega (arith, d.within)) (omega arith) (λ x a b. no_start p x (not_true (p x) (none x a b))))) ∙ d.so_far
+
+-- the cells of a row are the set along it
+cell_at-row : (g : Grid Bool) (y x : ℕ) → length (row g y) ≡ g.width → y < g.height → cell_at (row g y) x ≡ is_in g x y
+cell_at-row g y x long down =
+    elim (cases_lt x g.width) [
+        inl a ↦ get_or-take g.width _ x false a ∙ get_or-drop (y * g.width) g.cells x false ∙ sym (value_at-place false g.width g.height g.cells x y a down)
+      | inr b ↦ get_or_past (row g y) x false (omega arith) ∙ sym (value_at-right false g x y b)
+    ]
+
+-- the runs of a row's cells are the set's runs in that row
+row_runs-row : (g : Grid Bool) (y : ℕ) (cells : List Bool) → cells ≡ row g y → length cells ≡ g.width → y < g.height → row_runs (cell_at cells) (length cells) y ≡ row_of g y
+row_runs-row g y cells e long down =
+    ap (λ n. row_runs (cell_at cells) n y) long
+    ∙ ap (λ cs. row_runs (cell_at cs) g.width y) e
+    ∙ ap (λ p. row_runs p g.width y) (fun_ext (λ x. cell_at-row g y x (sym (ap length e) ∙ long) down))
+
+flat_map-range-more : (f : ℕ → List Rect) (n a j : ℕ) → a + n ≡ j → flat_map f (range_with_len a (suc n)) ≡ flat_map f (range_with_len a n) ++ f j
+flat_map-range-more f zero a j e = let s : a ≡ j = omega arith in append-nil (f a) ∙ ap f s
+flat_map-range-more f (suc n) a j e =
+    ap (λ v. f a ++ v) (flat_map-range-more f n (a + 1) j (omega arith)) ∙ sym (append_assoc (f a) (flat_map f (range_with_len (a + 1) n)) (f j))
+
+rows_above-more : (g : Grid Bool) (y : ℕ) → rows_above g (y + 1) ≡ rows_above g y ++ row_of g y
+rows_above-more g y = ap (rows_above g) (add-one y) ∙ flat_map-range-more (row_of g) y 0 y (zero-add y)
+
+-- one row more
+pub row_pushed : (g : Grid Bool) (y : ℕ) (cells : List Bool) (now next : List Rect) → next ≡ now ++ row_runs (cell_at cells) (length cells) y → now ≡ rows_above g y → cells ≡ row g y → length cells ≡ g.width → y < g.height → next ≡ rows_above g (y + 1)
+row_pushed g y cells now next pushed so_far e long down =
+    pushed
+    ∙ ap (λ v. v ++ row_runs (cell_at cells) (length cells) y) so_far
+    ∙ ap (λ v. rows_above g y ++ v) (row_runs-row g y cells e long down)
+    ∙ sym (rows_above-more g y)
+
+-- all rows
+pub rows_above-all : (g : Grid Bool) → rows_above g g.height ≡ runs g
+unfolding runs
+rows_above-all g = refl
