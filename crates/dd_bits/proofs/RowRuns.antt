@@ -105,6 +105,17 @@ pub IsDone-all : (p : ℕ → Bool) (w y from : ℕ) (before now : List Rect) �
 IsDone-all p w y from before now d none =
     sym (append-nil now) ∙ ap (λ v. now ++ v) (sym (skip p w y (w - from) from (w - from) w 0 (omega (arith, d.within)) (omega arith) (λ x a b. no_start p x (not_true (p x) (none x a b))))) ∙ d.so_far
 
+-- a blank row has no run
+pub row_runs-blank : (p : ℕ → Bool) (w y : ℕ) (now : List Rect) → HasNone p true 0 w → now ≡ now ++ row_runs p w y
+row_runs-blank p w y now none =
+    let all : w - 0 ≡ w = omega arith in
+    let start : IsDone p w y 0 now now = record {
+            within = omega arith;
+            fresh = λ l. absurd (omega arith);
+            so_far = ap (λ n. now ++ runs_from p w y 0 n) all;
+          } in
+    IsDone-all p w y 0 now now start none
+
 -- the cells of a row are the set along it
 cell_at-row : (g : Grid Bool) (y x : ℕ) → length (row g y) ≡ g.width → y < g.height → cell_at (row g y) x ≡ is_in g x y
 cell_at-row g y x long down =

@@ -6,6 +6,9 @@ mod laws;
 mod plane;
 mod runs;
 
+#[cfg(test)]
+mod tests;
+
 pub use area::Area;
 pub use laws::{runs_cover, runs_inside};
 pub use plane::Plane;

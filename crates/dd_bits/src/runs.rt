@@ -1,6 +1,7 @@
 //! The runs of marked columns of one row.
 
 ghost use Rattle.std.specs.Prelude.{◌≡◌, ◌≤◌, ◌<◌, ◌++◌, Bool, true, false, length, OnOk, IfSome, IfNone};
+ghost use Rattle.std.specs.Bool.{OnTrue};
 ghost use Rattle.dd_bits.specs.Runs.{row_rect, row_runs, cell_at, HasNone, IsRun};
 
 use dd_geom::{MAX_SIDE, Rect};
@@ -64,6 +65,18 @@ fn next_run(row: &[bool], from: usize) -> Option<Run>
     Some(Run { left, right })
 }
 
+/// Whether no column of the row is marked. It looks at each cell with no branch, so that a blank row
+/// costs little.
+fn is_blank(row: &[bool]) -> bool
+    ensures { OnTrue result (HasNone (cell_at row.now) true 0 (length row.now)) }
+{
+    let mut some = false;
+    for cell in row {
+        some = some | *cell;
+    }
+    !some
+}
+
 /// Appends the rectangles of a row's runs, from left to right.
 pub fn push_runs(out: &mut Vec<Rect>, row: &[bool], y: u32) -> Result<(), AllocError>
     requires width { length row.now ≤ MAX_SIDE }
@@ -71,6 +84,9 @@ pub fn push_runs(out: &mut Vec<Rect>, row: &[bool], y: u32) -> Result<(), AllocE
     ensures { OnOk result
         (out.new.items ≡ out.old.items ++ row_runs (cell_at row.now) (length row.now) y) }
 {
+    if is_blank(row) {
+        return Ok(());
+    }
     let mut from = 0;
     while let Some(run) = next_run(row, from) {
         out.push(run.in_row(y))?;

@@ -1,5 +1,5 @@
 use Rattle.std.proofs.Common.{◌∷◌, [], ◌++◌, ap, ◌∙◌}
-use Rattle.dd_bits.proofs.RowRuns.{IsDone-more, IsDone-all}
+use Rattle.dd_bits.proofs.RowRuns.{IsDone-more, IsDone-all, row_runs-blank}
 use Rattle.dd_bits.proofs.runs.push_runs.Goals as goal
 
 pub loop-run-preserved : goal.loop-run-preserved
@@ -9,3 +9,6 @@ loop-run-preserved c =
 
 pub returns : goal.returns
 returns c = IsDone-all _ _ _ _ _ _ c.loop-run.invariant c.in_default.ensures.none
+
+pub returns-then-is_blank : goal.returns-then-is_blank
+returns-then-is_blank c = row_runs-blank _ _ _ _ c.if-is_blank.ensures
