@@ -1,5 +1,6 @@
 -- Rectangles and moves as sets of points, after the API's RECT, POINT and DXGI_OUTDUPL_MOVE_RECT.
-use Rattle.std.specs.Prelude.{ℕ, ◌*◌, ◌≤◌, ℤ, pos, negsuc, int_le, int_lt, Bool, ◌&&◌, nat_le, nat_lt}
+use Rattle.std.specs.Prelude.{◌≡◌, ℕ, ◌*◌, ◌≤◌, ℤ, pos, negsuc, int_le, int_lt, ◌<ℤ◌, Bool, false, ◌&&◌, nat_le, nat_lt}
+use Rattle.std.specs.Int.{int_max, int_min}
 use Rattle.dd_geom.specs.declared.rect.Rect.{Rect}
 use Rattle.dd_geom.specs.declared.rect.Sides.{Sides}
 use Rattle.dd_geom.specs.declared.rect.TheConstants.{MAX_SIDE, MAX_PIXELS}
@@ -39,6 +40,33 @@ between s x y = nat_le s.left x && nat_lt x s.right && nat_le s.top y && nat_lt 
 -- the points of a surface that a rectangle covers
 abbrev pub has : Rect → ℕ → ℕ → Bool
 has r = between (sides r)
+
+-- on a surface, these are exactly the rectangle's own points
+abbrev pub HasIsCovers : Type 0
+HasIsCovers = (r : Rect) (x y : ℕ) → has r x y ≡ covers r (pos x) (pos y)
+
+-- a rectangle has at least one point
+pub record HasPoints (r : Rect) : Type 0 where
+  pub across : r.left <ℤ r.right
+  pub down : r.top <ℤ r.bottom
+
+-- the points of a rectangle are those that two rectangles share
+abbrev pub CoversBoth : Rect → Rect → Rect → Type 0
+CoversBoth r a b = (x y : ℤ) → covers r x y ≡ (covers a x y && covers b x y)
+
+-- the rectangle where two rectangles meet, which has no points where they don't
+abbrev pub meet_of : Rect → Rect → Rect
+meet_of a b =
+    record {
+      left = int_max a.left b.left;
+      top = int_max a.top b.top;
+      right = int_min a.right b.right;
+      bottom = int_min a.bottom b.bottom;
+    }
+
+-- two rectangles share no point
+abbrev pub AreApart : Rect → Rect → Type 0
+AreApart a b = (x y : ℤ) → (covers a x y && covers b x y) ≡ false
 
 -- four sides that lie inside a surface
 pub record AreInside (s : Sides) (w h : ℕ) : Type 0 where

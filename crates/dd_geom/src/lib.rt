@@ -4,7 +4,12 @@
 mod lists;
 mod painting;
 mod rect;
+#[cfg(test)]
+mod tests;
 
 pub use lists::{Moves, Rects};
 pub use painting::paint;
-pub use rect::{MAX_PIXELS, MAX_SIDE, Move, Point, Rect, Sides, rect_inside, sides_of};
+pub use rect::{
+    MAX_PIXELS, MAX_SIDE, Move, Point, Rect, Sides, contains, has_is_covers, intersect,
+    rect_inside, sides_of,
+};

@@ -1,7 +1,8 @@
 //! Points, rectangles and moves, in whole pixels from the top left corner of the surface.
 
-ghost use Rattle.std.specs.Prelude.{◌≡◌};
-ghost use Rattle.dd_geom.specs.Rect.{spans_inside, is_inside, place, sides};
+ghost use Rattle.std.specs.Prelude.{◌≡◌, ◌&&◌, int_le, int_lt, IfSome, IfNone};
+ghost use Rattle.dd_geom.specs.Rect.{covers, spans_inside, is_inside, place, sides};
+ghost use Rattle.dd_geom.specs.Rect.{HasPoints, CoversBoth, AreApart, HasIsCovers, meet_of};
 
 /// The longest side of a mode, in pixels.
 pub const MAX_SIDE: u32 = 8192;
@@ -42,6 +43,49 @@ pub struct Sides {
     pub bottom: usize,
 }
 
+/// Whether a span has a place: `from` is the first, and `to` the one after the last.
+fn span_has(from: i32, to: i32, at: i32) -> bool
+    ensures { result ≡ (int_le from at && int_lt at to) }
+{
+    from <= at && at < to
+}
+
+/// Whether the point is one of the rectangle's.
+pub fn contains(r: Rect, p: Point) -> bool
+    ensures { result ≡ covers r p.x p.y }
+{
+    span_has(r.left, r.right, p.x) && span_has(r.top, r.bottom, p.y)
+}
+
+/// The later first sides and the earlier last sides of two rectangles.
+fn meet(a: Rect, b: Rect) -> Rect
+    ensures { result ≡ meet_of a b }
+{
+    Rect {
+        left: a.left.max(b.left),
+        top: a.top.max(b.top),
+        right: a.right.min(b.right),
+        bottom: a.bottom.min(b.bottom),
+    }
+}
+
+/// Whether the rectangle has at least one point.
+fn has_points(r: Rect) -> bool
+    ensures { result ≡ (int_lt r.left r.right && int_lt r.top r.bottom) }
+{
+    r.left < r.right && r.top < r.bottom
+}
+
+/// The points that two rectangles share, as a rectangle; `None` where they share none.
+pub fn intersect(a: Rect, b: Rect) -> Option<Rect>
+    ensures common { IfSome result (λ r. CoversBoth r a b) }
+    ensures some { IfSome result HasPoints }
+    ensures none { IfNone result (AreApart a b) }
+{
+    let r = meet(a, b);
+    if has_points(r) { Some(r) } else { None }
+}
+
 /// Whether a span of `length` places has all of the places `from` to `to - 1`, and at least one.
 fn spans(from: i32, to: i32, length: u32) -> bool
     ensures { result ≡ spans_inside from to length }
@@ -79,3 +123,8 @@ fn index_of(coordinate: i32) -> usize
         coordinate as usize
     }
 }
+
+/// On a surface, the points between the sides of a rectangle are exactly its own.
+pub fn has_is_covers()
+    ensures { HasIsCovers }
+{}

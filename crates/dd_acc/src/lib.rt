@@ -1,0 +1,8 @@
+//! The moves and the dirt of an interval, accumulated present by present.
+#![tactic(auto)]
+
+mod interval;
+mod laws;
+
+pub use interval::Acc;
+pub use laws::touched_composes;

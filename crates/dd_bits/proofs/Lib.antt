@@ -1,0 +1,5 @@
+pub mod RunEnd
+pub mod RowRuns
+pub mod Cover
+pub mod PlaneGrids
+pub mod Examples

@@ -1,0 +1,5 @@
+use Rattle.dd_bits.specs.Runs.{cell_at, HasNone}
+use Rattle.dd_bits.proofs.runs.find.Given as goal
+
+abbrev pub invariant-loop-x : goal.invariant-loop-x
+invariant-loop-x l = HasNone (cell_at l.row) l.marked l.from l.x

@@ -1,0 +1,82 @@
+//! A set of points as a plane: one cell for each point of the surface, row by row.
+
+ghost use Rattle.std.specs.Prelude.{◌≡◌, ◌<◌, length};
+ghost use Rattle.dd_geom.specs.Grid.{row};
+
+use crate::area::Area;
+use crate::runs::push_runs;
+use dd_geom::{Rect, Rects, paint, sides_of};
+use std::alloc::{AllocError, Global};
+use std::marker::Model;
+
+/// A set of points, as one cell for each point of its surface: a byte a point.
+///
+/// The size is one that surfaces have, and there are as many cells as points.
+#[derive(Debug, Drop)]
+pub struct Plane {
+    width: u32,
+    height: u32,
+    cells: Vec<bool>,
+}
+
+impl Model for Plane {
+    ghost use Rattle.std.specs.Prelude.{Bool};
+    ghost use Rattle.dd_geom.specs.Grid.{Grid};
+    ghost use Rattle.dd_bits.specs.Area.{IsArea};
+
+    ghost Value = { Grid Bool };
+
+    ghost view = { λ p. record { width = p.width; height = p.height; cells = p.cells.items } };
+
+    ghost invariant = { λ p. IsArea (record { width = p.width; height = p.height; cells = p.cells.items }) };
+}
+
+impl Plane {
+    ghost use Rattle.dd_bits.specs.Area.{IsArea};
+
+    /// The cells of a row.
+    fn row(&self, y: u32) -> &[bool]
+        requires { y < self.now.height }
+        ensures cells { result.now ≡ row self.now y }
+        ensures width { length result.now ≡ self.now.width }
+        ensures area { IsArea self.now }
+    {
+        let width = self.width as usize;
+        let start = y as usize * width;
+        &self.cells[start..start + width]
+    }
+}
+
+impl Area for Plane {
+    ghost points = { λ p. p };
+
+    fn empty(alloc: Global, w: u32, h: u32) -> Result<Plane, AllocError> {
+        let cells = vec![in alloc; false; w as usize * h as usize]?;
+        Ok(Plane {
+            width: w,
+            height: h,
+            cells,
+        })
+    }
+
+    /// Takes no memory.
+    fn add(&mut self, r: Rect) -> Result<(), AllocError> {
+        let width = self.width as usize;
+        let height = self.height as usize;
+        paint(&mut self.cells, width, height, sides_of(r), true);
+        Ok(())
+    }
+
+    fn has(&self, x: u32, y: u32) -> bool {
+        self.cells[y as usize * self.width as usize + x as usize]
+    }
+
+    /// Takes the list's memory from the plane's own allocator.
+    fn list(&self) -> Result<Rects, AllocError> {
+        let mut out = Vec::new(*self.cells.allocator());
+        for y in 0..self.height {
+            push_runs(&mut out, self.row(y), y)?;
+        }
+        Ok(Rects::from_vec(out))
+    }
+}

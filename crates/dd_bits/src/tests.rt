@@ -1,0 +1,119 @@
+//! Cases of sets of points, which each kind of area is to answer alike.
+
+ghost use Rattle.std.specs.Prelude.{◌≡◌, IfOk};
+
+use crate::{Area, Plane, runs_cover, runs_inside};
+use dd_geom::{Rect, rect_inside};
+use std::alloc::{AllocError, Global};
+use std::process::Abort;
+use std::test::Fail;
+
+const WIDTH: u32 = 6;
+
+const HEIGHT: u32 = 4;
+
+macro_rules! rect {
+    ($left:expr, $top:expr, $right:expr, $bottom:expr) => {
+        Rect {
+            left: $left,
+            top: $top,
+            right: $right,
+            bottom: $bottom,
+        }
+    };
+}
+
+/// A surface of 6 by 4: the rectangles that are added, the points that are then in the set, and the
+/// list.
+struct Case {
+    name: &'static str,
+    added: &'static [Rect],
+    points: [&'static [u8; 6]; 4],
+    list: &'static [Rect],
+}
+
+static CASES: [Case; 6] = [
+    Case {
+        name: "nothing",
+        added: &[],
+        points: [b"......", b"......", b"......", b"......"],
+        list: &[],
+    },
+    Case {
+        name: "a square in a corner",
+        added: &[rect!(0, 0, 2, 2)],
+        points: [b"##....", b"##....", b"......", b"......"],
+        list: &[rect!(0, 0, 2, 1), rect!(0, 1, 2, 2)],
+    },
+    Case {
+        name: "two runs of one row, the right one added first",
+        added: &[rect!(4, 1, 6, 2), rect!(1, 1, 3, 2)],
+        points: [b"......", b".##.##", b"......", b"......"],
+        list: &[rect!(1, 1, 3, 2), rect!(4, 1, 6, 2)],
+    },
+    Case {
+        name: "rectangles that touch and overlap",
+        added: &[rect!(0, 2, 3, 3), rect!(3, 2, 5, 3), rect!(2, 2, 4, 3)],
+        points: [b"......", b"......", b"#####.", b"......"],
+        list: &[rect!(0, 2, 5, 3)],
+    },
+    Case {
+        name: "a cross",
+        added: &[rect!(2, 0, 3, 4), rect!(0, 1, 6, 2)],
+        points: [b"..#...", b"######", b"..#...", b"..#..."],
+        list: &[
+            rect!(2, 0, 3, 1),
+            rect!(0, 1, 6, 2),
+            rect!(2, 2, 3, 3),
+            rect!(2, 3, 3, 4),
+        ],
+    },
+    Case {
+        name: "the last point, and the whole first row",
+        added: &[rect!(5, 3, 6, 4), rect!(0, 0, 6, 1)],
+        points: [b"######", b"......", b"......", b".....#"],
+        list: &[rect!(0, 0, 6, 1), rect!(5, 3, 6, 4)],
+    },
+];
+
+/// The area to which the rectangles of a case are added.
+fn area_of<A: Area>(rt: &impl Abort, alloc: Global, added: &[Rect]) -> Result<A, AllocError>
+    ensures width { IfOk result (λ a. (A.points a).width ≡ WIDTH) }
+    ensures height { IfOk result (λ a. (A.points a).height ≡ HEIGHT) }
+{
+    let mut area = A::empty(alloc, WIDTH, HEIGHT)?;
+    for r in added {
+        assert!(rt; rect_inside(*r, WIDTH, HEIGHT));
+        area.add(*r)?;
+    }
+    Ok(area)
+}
+
+/// Each case on one kind of area.
+fn run_cases<A: Area>(rt: &impl Abort, alloc: Global) -> Result<(), AllocError> {
+    for case in &CASES {
+        let name = case.name;
+        let area: A = area_of(rt, alloc, case.added)?;
+        for y in 0..HEIGHT {
+            for x in 0..WIDTH {
+                let marked = case.points[y as usize][x as usize] == b'#';
+                assert_eq!(rt; area.has(x, y), marked, "{name}, at ({x}, {y})");
+            }
+        }
+        let list = area.list()?;
+        assert_eq!(rt; list.as_slice(), case.list, "{name}");
+    }
+    Ok(())
+}
+
+#[test]
+fn planes_answer_the_cases(rt: HostRuntime) -> Result<(), Fail> {
+    run_cases::<Plane>(&rt, rt.alloc())?;
+    Ok(())
+}
+
+#[test]
+fn laws_can_be_called() {
+    runs_cover();
+    runs_inside();
+}

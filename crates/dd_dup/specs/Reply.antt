@@ -1,0 +1,93 @@
+-- What one duplicator answers, told by its memory and the list.
+use Rattle.std.specs.Prelude.{ℕ, ◌+◌, ◌*◌, ◌==◌, Bool, true, false, if◌then◌else◌, pos, List, [], ◌∷◌, length, take, drop, Option, Some, None, is_some, option_map, Result, Ok, Err}
+use Rattle.dd_geom.specs.declared.rect.Rect.{Rect}
+use Rattle.dd_geom.specs.declared.rect.Move.{Move}
+use Rattle.dd_geom.specs.Grid.{rows}
+use Rattle.dd_bits.specs.Runs.{runs}
+use Rattle.dd_acc.specs.Effects.{dirt}
+use Rattle.dd_log.specs.declared.events.Entry.{Entry}
+use Rattle.dd_log.specs.declared.events.Event.{Event}
+use Rattle.dd_log.specs.declared.events.Event.TheVariants.{Opened}
+use Rattle.dd_log.specs.declared.events.Event.TheVariants as events
+use Rattle.dd_log.specs.declared.answers.FrameInfo.{FrameInfo}
+use Rattle.dd_log.specs.declared.answers.DupRefusal.{DupRefusal}
+use Rattle.dd_log.specs.declared.answers.DupRefusal.TheVariants.{InvalidCall, WaitTimeout}
+use Rattle.dd_log.specs.History.{History, mode_of, first_entries}
+use Rattle.dd_log.specs.Desk.{presents, view}
+
+-- an acquired frame: what is told of it, its moves and its dirty rectangles
+pub record Frame : Type 0 where
+  pub info : FrameInfo
+  pub moves : List Move
+  pub dirt : List Rect
+
+-- What a duplicator remembers: its opening place, its picture mark, and the frame that it holds.
+pub record Memory : Type 0 where
+  pub opened : ℕ
+  pub mark : ℕ
+  pub held : Option Frame
+
+-- where the desk's picture began: no event begins one anew
+abbrev pub picture_start : History → ℕ
+picture_start h = 0
+
+-- of a duplicator opened at a place
+abbrev pub fresh : History → ℕ → Memory
+fresh h place = record { opened = place; mark = picture_start h; held = None }
+
+-- the event number of the last present, where the first of the entries stands at a place; or else `last`
+abbrev pub number_after : ℕ → ℕ → Event → ℕ
+number_after last place (events.Draw d) = place + 1
+number_after last place (Opened slot app) = last
+
+abbrev pub last_present : ℕ → ℕ → List Entry → ℕ
+last_present last place [] = last
+last_present last place (e ∷ es) = last_present (number_after last place e.event) (place + 1) es
+
+-- the entries from a mark on
+abbrev pub news : History → ℕ → List Entry
+news h mark = drop mark h.entries
+
+-- the dirty rectangles of the interval from a mark on
+unfoldable pub dirt_from : History → ℕ → List Rect
+dirt_from h mark = runs (dirt (mode_of h).width (mode_of h).height (presents (news h mark)))
+
+-- the frame of the interval from a mark on: no event hides a point, tells a pointer or scrolls
+unfoldable pub frame : History → ℕ → Frame
+frame h mark = record {
+  info = record {
+    last_present = last_present 0 mark (news h mark);
+    last_mouse = 0;
+    accumulated = length (presents (news h mark));
+    coalesced = false;
+    protected = false;
+    pointer = record { position = record { x = pos 0; y = pos 0 }; visible = false };
+    meta_size = 16 * length (dirt_from h mark);
+    shape_size = 0;
+  };
+  moves = [];
+  dirt = dirt_from h mark;
+}
+
+-- the answer to an acquire
+abbrev pub acquire_reply : Memory → History → Result Frame DupRefusal
+acquire_reply m h = if is_some m.held then Err InvalidCall else (if length (presents (news h m.mark)) == 0 then Err WaitTimeout else Ok (frame h m.mark))
+
+-- and the memory after an answer
+abbrev pub memory_after : Memory → History → Result Frame DupRefusal → Memory
+memory_after m h (Ok f) = record { opened = m.opened; mark = length h.entries; held = Some f }
+memory_after m h (Err cause) = m
+
+abbrev pub acquire_memory : Memory → History → Memory
+acquire_memory m h = memory_after m h (acquire_reply m h)
+
+-- the answer to a release, and the memory after it
+abbrev pub release_reply : Memory → Result (Unit {0}) DupRefusal
+release_reply m = if is_some m.held then Ok tt else Err InvalidCall
+
+abbrev pub release_memory : Memory → Memory
+release_memory m = record { opened = m.opened; mark = m.mark; held = None }
+
+-- the rows of the acquired surface
+abbrev pub surface_reply : Memory → History → Option (List (List ℕ))
+surface_reply m h = option_map (λ f. rows (view (first_entries m.mark h))) m.held

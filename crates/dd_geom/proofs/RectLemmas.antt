@@ -1,0 +1,81 @@
+-- The points of a rectangle: on a surface, and where two of them meet.
+use Rattle.std.proofs.Common.{◌≡◌, ℕ, Bool, true, false, ◌&&◌, ℤ, pos, negsuc, nat_le, nat_lt, int_le, int_lt, refl, ap, inl, inr, ◌∙◌, sym, arith}
+use Rattle.std.specs.Int.{int_max, int_min}
+use Rattle.std.proofs.lemmas.Bool.{and_cases, and_left, and_right}
+use Rattle.std.proofs.lemmas.Int.{ints}
+use Rattle.dd_geom.specs.Rect.{place, covers, HasIsCovers, CoversBoth, AreApart, meet_of}
+use Rattle.dd_geom.specs.declared.rect.Rect.{Rect}
+
+and_assoc : (a b c : Bool) → (a && b && c) ≡ (a && (b && c))
+and_assoc true b c = refl
+and_assoc false b c = refl
+
+nat_le-place : (z : ℤ) (x : ℕ) → nat_le (place z) x ≡ int_le z (pos x)
+nat_le-place (pos n) x = refl
+nat_le-place (negsuc n) x = grind arith
+
+nat_lt-place : (z : ℤ) (x : ℕ) → nat_lt x (place z) ≡ int_lt (pos x) z
+nat_lt-place (pos n) x = refl
+nat_lt-place (negsuc n) x = grind arith
+
+pub has_is_covers : HasIsCovers
+has_is_covers r x y =
+    ap (λ b. b && nat_lt x (place r.right) && nat_le (place r.top) y && nat_lt y (place r.bottom)) (nat_le-place r.left x)
+    ∙ (ap (λ b. int_le r.left (pos x) && b && nat_le (place r.top) y && nat_lt y (place r.bottom)) (nat_lt-place r.right x)
+    ∙ (ap (λ b. int_le r.left (pos x) && int_lt (pos x) r.right && b && nat_lt y (place r.bottom)) (nat_le-place r.top y)
+    ∙ ap (λ b. int_le r.left (pos x) && int_lt (pos x) r.right && int_le r.top (pos y) && b) (nat_lt-place r.bottom y)))
+
+-- at or past the later of two is at or past both; before the earlier of two is before both
+pub int_le-max : (a b x : ℤ) → int_le (int_max a b) x ≡ (int_le a x && int_le b x)
+int_le-max a b x = grind (arith, ints)
+
+pub int_lt-min : (a b x : ℤ) → int_lt x (int_min a b) ≡ (int_lt x a && int_lt x b)
+int_lt-min a b x = grind (arith, ints)
+
+and_swap : (a p b q : Bool) → ((a && p) && (b && q)) ≡ ((a && b) && (p && q))
+and_swap true true b q = refl
+and_swap true false true q = refl
+and_swap true false false q = refl
+and_swap false p b q = refl
+
+regroup : (a b c d p q r s : Bool) → ((a && p) && (b && q) && (c && r) && (d && s)) ≡ ((a && b && c && d) && (p && q && r && s))
+regroup a b c d p q r s =
+    ap (λ t. t && (c && r) && (d && s)) (and_swap a p b q)
+    ∙ (ap (λ t. t && (d && s)) (and_swap (a && b) (p && q) c r) ∙ and_swap (a && b && c) (p && q && r) d s)
+
+pub CoversBoth-meet_of : (a b : Rect) → CoversBoth (meet_of a b) a b
+CoversBoth-meet_of a b x y =
+    ap (λ t. t && int_lt x (int_min a.right b.right) && int_le (int_max a.top b.top) y && int_lt y (int_min a.bottom b.bottom)) (int_le-max a.left b.left x)
+    ∙ (ap (λ t. (int_le a.left x && int_le b.left x) && t && int_le (int_max a.top b.top) y && int_lt y (int_min a.bottom b.bottom)) (int_lt-min a.right b.right x)
+    ∙ (ap (λ t. (int_le a.left x && int_le b.left x) && (int_lt x a.right && int_lt x b.right) && t && int_lt y (int_min a.bottom b.bottom)) (int_le-max a.top b.top y)
+    ∙ (ap (λ t. (int_le a.left x && int_le b.left x) && (int_lt x a.right && int_lt x b.right) && (int_le a.top y && int_le b.top y) && t) (int_lt-min a.bottom b.bottom y)
+    ∙ regroup (int_le a.left x) (int_lt x a.right) (int_le a.top y) (int_lt y a.bottom) (int_le b.left x) (int_lt x b.right) (int_le b.top y) (int_lt y b.bottom))))
+
+-- a rectangle whose sides leave no room covers nothing
+no_room : (from to x : ℤ) → int_lt from to ≡ false → (int_le from x && int_lt x to) ≡ false
+no_room from to x e = grind (arith, ints)
+
+covers_none :
+    (r : Rect) (x y : ℤ) → (int_lt r.left r.right && int_lt r.top r.bottom) ≡ false → covers r x y ≡ false
+covers_none r x y e =
+    elim (and_cases _ _ e) [
+      | inl across ↦
+          and_left _ _ (and_left _ _ (no_room r.left r.right x across))
+      | inr down ↦
+          and_assoc (int_le r.left x && int_lt x r.right) (int_le r.top y) (int_lt y r.bottom)
+          ∙ and_right _ _ (no_room r.top r.bottom y down)
+    ]
+
+pub AreApart-meet_of :
+    (a b : Rect) → (int_lt (meet_of a b).left (meet_of a b).right && int_lt (meet_of a b).top (meet_of a b).bottom) ≡ false
+    → AreApart a b
+AreApart-meet_of a b e x y = sym (CoversBoth-meet_of a b x y) ∙ covers_none (meet_of a b) x y e
+
+-- the same, of a rectangle that is known to be that one
+pub CoversBoth-met : (r a b : Rect) → r ≡ meet_of a b → CoversBoth r a b
+CoversBoth-met r a b e x y = ap (λ n. covers n x y) e ∙ CoversBoth-meet_of a b x y
+
+pub AreApart-met :
+    (r a b : Rect) → r ≡ meet_of a b → (int_lt r.left r.right && int_lt r.top r.bottom) ≡ false → AreApart a b
+AreApart-met r a b e none =
+    AreApart-meet_of a b (ap (λ (n : Rect). int_lt n.left n.right && int_lt n.top n.bottom) (sym e) ∙ none)
