@@ -1,10 +1,10 @@
 -- What operations do to a point of the surface, and where a point comes from, followed backward.
-use Rattle.std.specs.Prelude.{◌≡◌, ℕ, Bool, true, false, if◌then◌else◌, List, [], ◌∷◌, ◌++◌, map, fold}
+use Rattle.std.specs.Prelude.{◌≡◌, ℕ, ◌*◌, length, Bool, true, false, if◌then◌else◌, List, [], ◌∷◌, ◌++◌, map, fold}
 use Rattle.std.specs.List.{flat_map}
 use Rattle.dd_geom.specs.declared.rect.Rect.{Rect}
 use Rattle.dd_geom.specs.Rect.{has}
 use Rattle.dd_geom.specs.Grid.{Grid, grid}
-use Rattle.dd_bits.specs.Area.{is_in, nowhere}
+use Rattle.dd_bits.specs.Area.{is_in, nowhere, with_rect}
 use Rattle.dd_ops.specs.declared.operations.Op.{Op}
 use Rattle.dd_ops.specs.declared.operations.Op.TheVariants.{Fill}
 
@@ -56,3 +56,11 @@ dirt w h presents = fold dirtied (nowhere w h) presents
 -- What is touched after two lists of effects is what the second touches from what the first touched.
 abbrev pub TouchedComposes : Type 0
 TouchedComposes = (area : ℕ → ℕ → Bool) (a b : List Effect) (x y : ℕ) → touched (touched area a) b x y ≡ touched area (a ++ b) x y
+
+-- the set and what one operation draws
+abbrev pub with_drawn : Grid Bool → Op → Grid Bool
+with_drawn g (Fill rect colour) = with_rect g rect
+
+-- a set with a cell for each point
+abbrev pub IsWhole : Grid Bool → Type 0
+IsWhole g = length g.cells ≡ g.width * g.height

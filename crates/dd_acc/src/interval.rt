@@ -3,8 +3,8 @@
 ghost use Rattle.std.specs.Prelude.{◌≡◌, ◌+◌, ◌-◌, ◌^◌, ◌<◌, [], ◌∷◌, IsTrue, IfOk, OnOk};
 ghost use Rattle.dd_geom.specs.Rect.{IsSize};
 ghost use Rattle.dd_bits.specs.Runs.{runs};
-ghost use Rattle.dd_ops.specs.Operations.{all_fit};
-ghost use Rattle.dd_acc.specs.Effects.{dirtied};
+ghost use Rattle.dd_ops.specs.Operations.{fits, all_fit};
+ghost use Rattle.dd_acc.specs.Effects.{dirtied, with_drawn, IsWhole};
 ghost use Rattle.dd_acc.specs.Interval.{nothing, with_present};
 
 use dd_bits::Area;
@@ -25,24 +25,34 @@ pub struct Acc<A: Area> {
 impl<A: Area> Model for Acc<A> {
     ghost use Rattle.std.specs.Prelude.{◌≡◌};
     ghost use Rattle.dd_bits.specs.Runs.{runs};
+    ghost use Rattle.dd_acc.specs.Effects.{IsWhole};
     ghost use Rattle.dd_acc.specs.Interval.{Interval};
 
     ghost Value = { Interval };
 
     ghost view = { λ a. record { area = A.points a.area; frames = a.frames } };
 
-    ghost invariant = { λ a. a.dirt ≡ runs (A.points a.area) };
+    ghost invariant = { λ a. (a.dirt ≡ runs (A.points a.area)) × IsWhole (A.points a.area) };
+}
+
+/// Adds what one operation draws.
+fn add_drawn<A: Area>(area: &mut A, op: &Op) -> Result<(), AllocError>
+    requires { IsTrue (fits (A.points area.old).width (A.points area.old).height op.now) }
+    ensures ok { OnOk result (A.points area.new ≡ with_drawn (A.points area.old) op.now) }
+{
+    match op {
+        Op::Fill { rect, .. } => area.add(*rect),
+    }
 }
 
 /// Adds what the operations touch.
 fn add_touched<A: Area>(area: &mut A, ops: &[Op]) -> Result<(), AllocError>
-    requires { IsTrue (all_fit (A.points area.old).width (A.points area.old).height ops.now) }
+    requires fit { IsTrue (all_fit (A.points area.old).width (A.points area.old).height ops.now) }
+    requires whole { IsWhole (A.points area.old) }
     ensures { OnOk result (A.points area.new ≡ dirtied (A.points area.old) ops.now) }
 {
     for op in ops {
-        match op {
-            Op::Fill { rect, .. } => area.add(*rect)?,
-        }
+        add_drawn(area, op)?;
     }
     Ok(())
 }
@@ -69,7 +79,9 @@ impl<A: Area> Acc<A> {
         ensures { IfOk result (λ acc. acc ≡ with_present self ops.now) }
     {
         let Acc {
-            mut area, frames, ..
+            mut area,
+            frames,
+            ..
         } = self;
         add_touched(&mut area, ops.as_slice())?;
         let dirt = area.list()?;

@@ -5,5 +5,4 @@ ghost use Rattle.dd_acc.specs.Effects.{TouchedComposes};
 /// What two lists of effects touch, one after the other, is what both together touch.
 pub fn touched_composes()
     ensures { TouchedComposes }
-{
-}
+{}
