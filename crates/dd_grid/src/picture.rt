@@ -1,6 +1,6 @@
 //! A picture: a cell for each point, row by row, drawn in place.
 
-ghost use Rattle.std.specs.Prelude.{◌≡◌, ◌+◌, ◌*◌, ◌^◌, ◌<◌, ◌≤◌, slice_range, IsTrue, IfOk};
+ghost use Rattle.std.specs.Prelude.{◌≡◌, ◌+◌, ◌*◌, ◌^◌, ◌<◌, ◌≤◌, length, slice_range, IsTrue, IfOk};
 ghost use Rattle.dd_geom.specs.Rect.{IsSize, is_inside};
 
 use crate::cell::Pixel;
@@ -116,7 +116,9 @@ impl Picture {
         requires row { y < self.now.height }
         requires order { from ≤ to }
         requires inside { to ≤ self.now.width }
-        ensures { result.now ≡ slice_range self.now.cells (y * self.now.width + from) (y * self.now.width + to) }
+        ensures cells { result.now
+            ≡ slice_range self.now.cells (y * self.now.width + from) (y * self.now.width + to) }
+        ensures len { length result.now + from ≡ to }
     {
         let start = y * self.width as usize;
         &self.cells[start + from..start + to]
