@@ -7,7 +7,7 @@ use Rattle.std.proofs.lemmas.Nat.{div-add-mod', div-mul-add, mod-mul-add, mul-ad
 use Rattle.dd_geom.specs.declared.rect.Rect.{Rect}
 use Rattle.dd_geom.specs.declared.rect.Sides.{Sides}
 use Rattle.dd_geom.specs.Rect.{between, has, sides}
-use Rattle.dd_geom.specs.Grid.{Grid, grid, value_at}
+use Rattle.dd_geom.specs.Grid.{Grid, grid}
 use Rattle.dd_geom.proofs.GridLemmas.{grid_from_places, value_at-cell, value_at-place}
 use Rattle.dd_geom.proofs.PaintLemmas.{IsDrawn, IsPainted, grid_from_drawn, grid_from_painted}
 use Rattle.dd_grid.specs.Cell.{Cell, plain, seen_cell}
@@ -19,7 +19,7 @@ pub grid_from_replicate :
     → record { width = w; height = h; cells = cells } ≡ grid w h (λ _ _. v)
 grid_from_replicate {A} w h v cells e =
     grid_from_places v w h (λ _ _. v) cells (ap length e ∙ length-replicate (w * h) v) (λ k within.
-      ap (λ (xs : List A). get_or xs k v) e ∙ get_or-replicate (w * h) k v v within)
+    ap (λ (xs : List A). get_or xs k v) e ∙ get_or-replicate (w * h) k v v within)
 
 -- painted cells are the filled picture
 pub filled_from_painted :
@@ -43,25 +43,25 @@ with_colour_from_set s x y c across down long =
     let f = λ (at_x at_y : ℕ). cond (eqb at_x x && eqb at_y y) c (colour_at s at_x at_y) in
     let room : i < w * s.height = mul-add-lt y w x s.height down across in
     grid_from_places 0 w s.height f (set s.cells i c) (length-set s.cells i c ∙ long) (λ k within.
-      elim (cases_eq k i) [
-        inl here ↦
+    elim (cases_eq k i) [
+      | inl here ↦
           let column : k % w ≡ x = ap (λ n. n % w) here ∙ mod-mul-add y w x across in
           let line : k / w ≡ y = ap (λ n. n / w) here ∙ div-mul-add y w x across in
           ap (λ n. get_or (set s.cells i c) n 0) here
           ∙ (get_or-set_same s.cells i c 0 (omega arith)
           ∙ sym (cond-true _ c (colour_at s (k % w) (k / w))
-            (and_from _ _ (eq-eqb (k % w) x column) (eq-eqb (k / w) y line))))
+          (and_from _ _ (eq-eqb (k % w) x column) (eq-eqb (k / w) y line))))
       | inr elsewhere ↦
           let apart : (eqb (k % w) x && eqb (k / w) y) ≡ false =
-              false_from_ne_true _ (λ t.
-                let both = and_parts (eqb (k % w) x) (eqb (k / w) y) t in
-                elsewhere (sym (div-add-mod' k w)
-                  ∙ (ap (λ n. k / w * w + n) (eqb-true (k % w) x both.0)
-                  ∙ ap (λ n. n * w + x) (eqb-true (k / w) y both.1)))) in
+          false_from_ne_true _ (λ t.
+          let both = and_parts (eqb (k % w) x) (eqb (k / w) y) t in
+          elsewhere (sym (div-add-mod' k w)
+          ∙ (ap (λ n. k / w * w + n) (eqb-true (k % w) x both.0)
+          ∙ ap (λ n. n * w + x) (eqb-true (k / w) y both.1)))) in
           get_or-set_other s.cells i k c 0 elsewhere
           ∙ (sym (value_at-cell 0 w s.height s.cells k within)
           ∙ sym (cond-false _ c (colour_at s (k % w) (k / w)) apart))
-      ])
+    ])
 
 -- what is seen of a run of a picture's row
 pub get_or-seen_run :
@@ -72,10 +72,10 @@ pub get_or-seen_run :
 get_or-seen_run p y from to cells i d e within inside across down =
     get_or-map seen_cell cells i (plain 0) d within
     ∙ ap seen_cell
-      (ap (λ (cs : List Cell). get_or cs i (plain 0)) e
-      ∙ (get_or-between p.cells (y * p.width + from) (y * p.width + to) i (plain 0) (omega arith)
-      ∙ (ap (λ n. get_or p.cells n (plain 0)) (omega arith)
-      ∙ sym (value_at-place (plain 0) p.width p.height p.cells (from + i) y (omega arith) down))))
+    (ap (λ (cs : List Cell). get_or cs i (plain 0)) e
+    ∙ (get_or-between p.cells (y * p.width + from) (y * p.width + to) i (plain 0) (omega arith)
+    ∙ (ap (λ n. get_or p.cells n (plain 0)) (omega arith)
+    ∙ sym (value_at-place (plain 0) p.width p.height p.cells (from + i) y (omega arith) down))))
 
 -- cells that are drawn with what is seen are the taken surface
 pub taken_from_drawn :

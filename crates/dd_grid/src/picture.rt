@@ -70,7 +70,13 @@ impl Picture {
     {
         let width = self.width as usize;
         let height = self.height as usize;
-        paint(&mut self.cells, width, height, sides_of(r), Pixel::plain(colour));
+        paint(
+            &mut self.cells,
+            width,
+            height,
+            sides_of(r),
+            Pixel::plain(colour),
+        );
     }
 
     /// The cell at a point.

@@ -53,7 +53,7 @@ fn take_rows(colours: &mut [u32], width: usize, height: usize, sides: Sides, fro
     requires colours { length colours.old ≡ width * height }
     ensures taken { (k : ℕ) (d : ℕ) → k < length colours.old → slice_index_or colours.new k d
         ≡ (if between sides (k % width) (k / width) then seen_cell (cell_at from.now (k % width) (k / width))
-          else slice_index_or colours.old k d) }
+        else slice_index_or colours.old k d) }
     ensures small { All (λ c. c < 2 ^ 24) colours.old → All (λ c. c < 2 ^ 24) colours.new }
 {
     for y in sides.top..sides.bottom {
