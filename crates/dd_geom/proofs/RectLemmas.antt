@@ -1,9 +1,10 @@
 -- The points of a rectangle: on a surface, and where two of them meet.
-use Rattle.std.proofs.Common.{◌≡◌, ℕ, Bool, true, false, ◌&&◌, ℤ, pos, negsuc, nat_le, nat_lt, int_le, int_lt, refl, ap, inl, inr, ◌∙◌, sym, arith}
+use Rattle.std.proofs.Common.{◌≡◌, ℕ, Bool, true, false, ◌&&◌, ℤ, pos, negsuc, nat_le, nat_lt, int_le, int_lt, refl, ap, inl, inr, ◌∙◌, sym, arith, ◌≤◌}
 use Rattle.std.specs.Int.{int_max, int_min}
-use Rattle.std.proofs.lemmas.Bool.{and_cases, and_left, and_right}
+use Rattle.std.proofs.lemmas.Bool.{and_cases, and_left, and_right, and_parts}
+use Rattle.std.proofs.lemmas.Bool.Decides.{nat_tests}
 use Rattle.std.proofs.lemmas.Int.{ints}
-use Rattle.dd_geom.specs.Rect.{place, covers, HasIsCovers, CoversBoth, AreApart, meet_of}
+use Rattle.dd_geom.specs.Rect.{place, covers, HasIsCovers, CoversBoth, AreApart, meet_of, sides, spans_inside, is_inside, AreInside}
 use Rattle.dd_geom.specs.declared.rect.Rect.{Rect}
 
 and_assoc : (a b c : Bool) → (a && b && c) ≡ (a && (b && c))
@@ -79,3 +80,17 @@ pub AreApart-met :
     (r a b : Rect) → r ≡ meet_of a b → (int_lt r.left r.right && int_lt r.top r.bottom) ≡ false → AreApart a b
 AreApart-met r a b e none =
     AreApart-meet_of a b (ap (λ (n : Rect). int_lt n.left n.right && int_lt n.top n.bottom) (sym e) ∙ none)
+
+-- a span inside as places
+span_places : (from to : ℤ) (n : ℕ) → spans_inside from to n ≡ true → (place from ≤ place to) × (place to ≤ n)
+span_places (pos a) (pos b) n e = (grind (arith, nat_tests), grind (arith, nat_tests))
+span_places (pos a) (negsuc b) n e = absurd (grind (arith, nat_tests))
+span_places (negsuc a) to n e = absurd (grind (arith, nat_tests))
+
+-- the sides of a rectangle that lies inside lie inside
+pub AreInside-sides : (r : Rect) (w h : ℕ) → is_inside r w h ≡ true → AreInside (sides r) w h
+AreInside-sides r w h e =
+    let both = and_parts (spans_inside r.left r.right w) (spans_inside r.top r.bottom h) e in
+    let x = span_places r.left r.right w both.0 in
+    let y = span_places r.top r.bottom h both.1 in
+    record { across = x.0; down = y.0; right = x.1; bottom = y.1 }

@@ -1,6 +1,6 @@
 //! Each public call once, with answers worked out by hand.
 
-use crate::{Move, Moves, Point, Rect, Rects, contains, intersect, paint, rect_inside, sides_of};
+use crate::{Move, Moves, Point, Rect, Rects, Sides, contains, intersect, paint, rect_inside, sides_of};
 use std::test::Fail;
 
 fn rect(left: i32, top: i32, right: i32, bottom: i32) -> Rect {
@@ -52,7 +52,13 @@ fn points_and_surfaces(rt: HostRuntime) {
 #[test]
 fn paints_between_the_sides(rt: HostRuntime) {
     let mut cells = [0u8; 12];
-    paint(&mut cells, 4, 3, sides_of(rect(1, 1, 3, 2)), 7);
+    let sides = Sides {
+        left: 1,
+        top: 1,
+        right: 3,
+        bottom: 2,
+    };
+    paint(&mut cells, 4, 3, sides, 7);
     assert_eq!(rt; cells, [0, 0, 0, 0, 0, 7, 7, 0, 0, 0, 0, 0]);
 }
 

@@ -1,0 +1,90 @@
+-- What is drawn on the cells of a picture or a surface is the grid that its definition names.
+use Rattle.std.proofs.Common.{◌≡◌, ℕ, ◌+◌, ◌*◌, ◌/◌, ◌%◌, ◌<◌, ◌≤◌, ◌&&◌, false, cond, eqb, List, map, length, get_or, set, replicate, slice_range, sym, ap, ◌∙◌, subst, inl, inr, arith}
+use Rattle.std.proofs.lemmas.Bool.{eq-eqb, eqb-true, and_from, and_parts, cond-true, cond-false, cases_eq, false_from_ne_true}
+use Rattle.std.proofs.lemmas.List.{get_or-map, get_or-replicate, get_or-set_same, get_or-set_other, length-set, length-replicate}
+use Rattle.std.proofs.lemmas.List.Edits.{get_or-between}
+use Rattle.std.proofs.lemmas.Nat.{div-add-mod', div-mul-add, mod-mul-add, mul-add-lt}
+use Rattle.dd_geom.specs.declared.rect.Rect.{Rect}
+use Rattle.dd_geom.specs.declared.rect.Sides.{Sides}
+use Rattle.dd_geom.specs.Rect.{between, has, sides}
+use Rattle.dd_geom.specs.Grid.{Grid, grid}
+use Rattle.dd_geom.proofs.GridLemmas.{grid_from_places, value_at-cell, value_at-place}
+use Rattle.dd_geom.proofs.PaintLemmas.{IsDrawn, IsPainted, grid_from_drawn, grid_from_painted}
+use Rattle.dd_grid.specs.Cell.{Cell, plain, seen_cell}
+use Rattle.dd_grid.specs.Drawing.{cell_at, colour_at, filled, with_colour, taken}
+
+-- cells of one value are the grid of that value
+pub grid_from_replicate :
+    {A : Type 0} (w h : ℕ) (v : A) (cells : List A) → cells ≡ replicate (w * h) v
+    → record { width = w; height = h; cells = cells } ≡ grid w h (λ _ _. v)
+grid_from_replicate {A} w h v cells e =
+    grid_from_places v w h (λ _ _. v) cells (ap length e ∙ length-replicate (w * h) v) (λ k within.
+    ap (λ (xs : List A). get_or xs k v) e ∙ get_or-replicate (w * h) k v v within)
+
+-- painted cells are the filled picture
+pub filled_from_painted :
+    (p : Grid Cell) (r : Rect) (c : ℕ) (s : Sides) (v : Cell) (old new : List Cell)
+    → s ≡ sides r → v ≡ plain c → old ≡ p.cells
+    → length p.cells ≡ p.width * p.height → length new ≡ p.width * p.height → IsPainted p.width s v old new
+    → record { width = p.width; height = p.height; cells = new } ≡ filled p r c
+filled_from_painted p r c s v old new at_sides at_colour from long_old long_new painted =
+    let P : List Cell → Type 0 = λ cs. IsPainted p.width s v cs new in
+    grid_from_painted (plain 0) p.width p.height s v p.cells new long_old long_new (subst P from painted)
+    ∙ (ap (λ n. grid p.width p.height (λ x y. cond (between n x y) v (cell_at p x y))) at_sides
+    ∙ ap (λ n. grid p.width p.height (λ x y. cond (has r x y) n (cell_at p x y))) at_colour)
+
+-- one cell set is the surface with that colour
+pub with_colour_from_set :
+    (s : Grid ℕ) (x y c : ℕ) → x < s.width → y < s.height → length s.cells ≡ s.width * s.height
+    → record { width = s.width; height = s.height; cells = set s.cells (y * s.width + x) c } ≡ with_colour s x y c
+with_colour_from_set s x y c across down long =
+    let w : ℕ = s.width in
+    let i : ℕ = y * w + x in
+    let f = λ (at_x at_y : ℕ). cond (eqb at_x x && eqb at_y y) c (colour_at s at_x at_y) in
+    let room : i < w * s.height = mul-add-lt y w x s.height down across in
+    grid_from_places 0 w s.height f (set s.cells i c) (length-set s.cells i c ∙ long) (λ k within.
+    elim (cases_eq k i) [
+      | inl here ↦
+          let column : k % w ≡ x = ap (λ n. n % w) here ∙ mod-mul-add y w x across in
+          let line : k / w ≡ y = ap (λ n. n / w) here ∙ div-mul-add y w x across in
+          ap (λ n. get_or (set s.cells i c) n 0) here
+          ∙ (get_or-set_same s.cells i c 0 (omega arith)
+          ∙ sym (cond-true _ c (colour_at s (k % w) (k / w))
+          (and_from _ _ (eq-eqb (k % w) x column) (eq-eqb (k / w) y line))))
+      | inr elsewhere ↦
+          let apart : (eqb (k % w) x && eqb (k / w) y) ≡ false =
+          false_from_ne_true _ (λ t.
+          let both = and_parts (eqb (k % w) x) (eqb (k / w) y) t in
+          elsewhere (sym (div-add-mod' k w)
+          ∙ (ap (λ n. k / w * w + n) (eqb-true (k % w) x both.0)
+          ∙ ap (λ n. n * w + x) (eqb-true (k / w) y both.1)))) in
+          get_or-set_other s.cells i k c 0 elsewhere
+          ∙ (sym (value_at-cell 0 w s.height s.cells k within)
+          ∙ sym (cond-false _ c (colour_at s (k % w) (k / w)) apart))
+    ])
+
+-- what is seen of a run of a picture's row
+pub get_or-seen_run :
+    (p : Grid Cell) (y from to : ℕ) (cells : List Cell) (i d : ℕ)
+    → cells ≡ slice_range p.cells (y * p.width + from) (y * p.width + to) → i < length cells
+    → from + i < to → to ≤ p.width → y < p.height
+    → get_or (map seen_cell cells) i d ≡ seen_cell (cell_at p (from + i) y)
+get_or-seen_run p y from to cells i d e within inside across down =
+    get_or-map seen_cell cells i (plain 0) d within
+    ∙ ap seen_cell
+    (ap (λ (cs : List Cell). get_or cs i (plain 0)) e
+    ∙ (get_or-between p.cells (y * p.width + from) (y * p.width + to) i (plain 0) (omega arith)
+    ∙ (ap (λ n. get_or p.cells n (plain 0)) (omega arith)
+    ∙ sym (value_at-place (plain 0) p.width p.height p.cells (from + i) y (omega arith) down))))
+
+-- cells that are drawn with what is seen are the taken surface
+pub taken_from_drawn :
+    (t : Grid ℕ) (r : Rect) (p : Grid Cell) (s : Sides) (old new : List ℕ)
+    → s ≡ sides r → old ≡ t.cells → length t.cells ≡ t.width * t.height → length new ≡ t.width * t.height
+    → IsDrawn t.width s (λ x y. seen_cell (cell_at p x y)) old new
+    → record { width = t.width; height = t.height; cells = new } ≡ taken t r p
+taken_from_drawn t r p s old new at_sides from long_old long_new drawn =
+    let f = λ (x y : ℕ). seen_cell (cell_at p x y) in
+    let P : List ℕ → Type 0 = λ cs. IsDrawn t.width s f cs new in
+    grid_from_drawn 0 t.width t.height s f t.cells new long_old long_new (subst P from drawn)
+    ∙ ap (λ n. grid t.width t.height (λ x y. cond (between n x y) (f x y) (colour_at t x y))) at_sides

@@ -1,0 +1,9 @@
+//! Pictures of plain and hidden cells, and surfaces of visible colours.
+#![tactic(auto)]
+
+mod cell;
+mod picture;
+mod surface;
+
+pub use picture::Picture;
+pub use surface::Surface;

@@ -1,0 +1,130 @@
+//! A surface: a visible colour for each point, row by row.
+
+ghost use Rattle.std.specs.Prelude.{◌≡◌, ℕ, ◌*◌, ◌/◌, ◌%◌, ◌^◌, ◌<◌, length, map, All, IsTrue, IfOk};
+ghost use Rattle.std.specs.Prelude.{slice_index_or, if◌then◌else◌};
+ghost use Rattle.dd_geom.specs.Rect.{IsSize, AreInside, between, is_inside};
+ghost use Rattle.dd_geom.specs.Grid.{row};
+ghost use Rattle.dd_grid.specs.Cell.{seen_cell};
+ghost use Rattle.dd_grid.specs.Drawing.{cell_at};
+
+use crate::cell::Pixel;
+use crate::picture::Picture;
+use dd_geom::{Rect, Sides, sides_of};
+use std::alloc::{AllocError, Global};
+use std::marker::Model;
+
+/// A surface of a size that a mode may have, with exactly one colour of 4 bytes for each point.
+#[derive(Debug, Drop)]
+pub struct Surface {
+    width: u32,
+    height: u32,
+    colours: Vec<u32>,
+}
+
+impl Model for Surface {
+    ghost use Rattle.std.specs.Prelude.{ℕ};
+    ghost use Rattle.dd_geom.specs.Grid.{Grid};
+
+    ghost Value = { Grid ℕ };
+
+    ghost use Rattle.dd_grid.specs.Drawing.{IsSurface};
+
+    ghost view = { λ s. record { width = s.width; height = s.height; cells = s.colours.items } };
+
+    ghost invariant = { λ s. IsSurface (record { width = s.width; height = s.height; cells = s.colours.items }) };
+}
+
+/// Writes what is seen of each cell.
+fn take_run(to: &mut [u32], from: &[Pixel])
+    requires { length to.old ≡ length from.now }
+    ensures seen { to.new ≡ map seen_cell from.now }
+    ensures small { All (λ c. c < 2 ^ 24) to.new }
+{
+    for x in 0..to.len() {
+        to[x] = from[x].seen();
+    }
+}
+
+/// Writes what is seen of a picture into each colour between the sides; `colours` has rows of
+/// `width` colours.
+fn take_rows(colours: &mut [u32], width: usize, height: usize, sides: Sides, from: &Picture)
+    requires inside { AreInside sides width height }
+    requires inside_from { AreInside sides from.now.width from.now.height }
+    requires colours { length colours.old ≡ width * height }
+    ensures taken { (k : ℕ) (d : ℕ) → k < length colours.old → slice_index_or colours.new k d
+        ≡ (if between sides (k % width) (k / width) then seen_cell (cell_at from.now (k % width) (k / width))
+        else slice_index_or colours.old k d) }
+    ensures small { All (λ c. c < 2 ^ 24) colours.old → All (λ c. c < 2 ^ 24) colours.new }
+{
+    for y in sides.top..sides.bottom {
+        let start = y * width;
+        let run = from.run(y, sides.left, sides.right);
+        take_run(&mut colours[start + sides.left..start + sides.right], run);
+    }
+}
+
+impl Surface {
+    ghost use Rattle.dd_grid.specs.Drawing.{IsSurface, blank, with_colour, taken};
+
+    /// A surface of `w` by `h` black points.
+    pub fn new(alloc: Global, w: u32, h: u32) -> Result<Surface, AllocError>
+        requires { IsSize w h }
+        ensures { IfOk result (λ s. s ≡ blank w h) }
+    {
+        let colours = vec![in alloc; 0; w as usize * h as usize]?;
+        Ok(Surface {
+            width: w,
+            height: h,
+            colours,
+        })
+    }
+
+    pub fn width(&self) -> u32
+        ensures width { result ≡ self.now.width }
+        ensures surface { IsSurface self.now }
+    {
+        self.width
+    }
+
+    pub fn height(&self) -> u32
+        ensures height { result ≡ self.now.height }
+        ensures surface { IsSurface self.now }
+    {
+        self.height
+    }
+
+    /// The colours of a row, without a copy.
+    pub fn row(&self, y: u32) -> &[u32]
+        requires { y < self.now.height }
+        ensures row { result.now ≡ row self.now y }
+        ensures colours { All (λ c. c < 2 ^ 24) result.now }
+    {
+        let start = y as usize * self.width as usize;
+        &self.colours[start..start + self.width as usize]
+    }
+
+    /// Sets the colour of one point.
+    pub fn set(&mut self, x: u32, y: u32, colour: u32)
+        requires x { x < self.old.width }
+        requires y { y < self.old.height }
+        requires colour { colour < 2 ^ 24 }
+        ensures set { self.new ≡ with_colour self.old x y colour }
+        ensures width { self.new.width ≡ self.old.width }
+        ensures height { self.new.height ≡ self.old.height }
+    {
+        self.colours[y as usize * self.width as usize + x as usize] = colour;
+    }
+
+    /// Copies what is seen of a picture inside a rectangle.
+    pub fn take(&mut self, r: Rect, from: &Picture)
+        requires inside { IsTrue (is_inside r self.old.width self.old.height) }
+        requires inside_from { IsTrue (is_inside r from.now.width from.now.height) }
+        ensures taken { self.new ≡ taken self.old r from.now }
+        ensures width { self.new.width ≡ self.old.width }
+        ensures height { self.new.height ≡ self.old.height }
+    {
+        let width = self.width as usize;
+        let height = self.height as usize;
+        take_rows(&mut self.colours, width, height, sides_of(r), from);
+    }
+}
