@@ -75,3 +75,10 @@ height-dirtied g ops = refl
 -- each operation of a list that fits does
 pub fits_at : (w h : ℕ) (ops : List Op) (k : ℕ) (d : Op) → all_fit w h ops ≡ true → k < length ops → fits w h (get_or ops k d) ≡ true
 fits_at w h ops k d t k_in = AllPass-from_list_all (fits w h) ops t k d k_in
+
+-- one turn of the loop over the operations
+pub dirtied_more : (g s : Grid Bool) (ops : List Op) (k : ℕ) (d : Op) → k < length ops → s ≡ dirtied g (take k ops) → with_drawn s (get_or ops k d) ≡ dirtied g (take (k + 1) ops)
+dirtied_more g s ops k d k_in so_far =
+    ap (λ q. with_drawn q (get_or ops k d)) so_far
+    ∙ dirtied-push g (take k ops) (get_or ops k d)
+    ∙ ap (dirtied g) (sym (take_more ops k d k_in))

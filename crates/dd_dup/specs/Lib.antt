@@ -1,3 +1,4 @@
 pub mod Reply
 pub mod Stands
 pub mod Duplicator
+pub mod Forward

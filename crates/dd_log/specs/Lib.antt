@@ -1,2 +1,3 @@
 pub mod History
 pub mod Storage
+pub mod Desk

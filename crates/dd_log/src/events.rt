@@ -1,8 +1,11 @@
 //! The events of an output's list.
 
+ghost use Rattle.std.specs.Prelude.{◌≡◌, IfOk};
+
 use crate::lists::Apps;
 use dd_modes::Modes;
 use dd_ops::Ops;
+use std::alloc::AllocError;
 
 /// One past the greatest number of an actor.
 pub const MAX_ACTORS: u32 = 64;
@@ -27,6 +30,17 @@ pub struct Spec {
 pub enum Draw {
     /// Draws 0 to 64 operations, in their order.
     Present(Ops),
+}
+
+impl Draw {
+    /// An equal drawing, on memory of its own.
+    pub fn copy(&self) -> Result<Draw, AllocError>
+        ensures { IfOk result (λ draw. draw ≡ self.now) }
+    {
+        match self {
+            Draw::Present(ops) => Ok(Draw::Present(ops.copy()?)),
+        }
+    }
 }
 
 /// One event of the list.

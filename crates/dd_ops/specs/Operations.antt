@@ -1,7 +1,10 @@
 -- Which operations fit a surface.
-use Rattle.std.specs.Prelude.{ℕ, ◌+◌, Bool, ◌&&◌, not, nat_lt, List, Option, position}
+use Rattle.std.specs.Prelude.{ℕ, ◌+◌, Bool, ◌&&◌, not, nat_lt, List, fold, Option, position}
 use Rattle.std.specs.List.{list_all}
+use Rattle.dd_geom.specs.Grid.{Grid}
 use Rattle.dd_geom.specs.Rect.{is_inside}
+use Rattle.dd_grid.specs.Cell.{Cell}
+use Rattle.dd_grid.specs.Drawing.{filled}
 use Rattle.dd_ops.specs.declared.operations.Op.{Op}
 use Rattle.dd_ops.specs.declared.operations.Op.TheVariants.{Fill}
 use Rattle.dd_ops.specs.declared.operations.TheConstants.{COLOURS}
@@ -17,3 +20,10 @@ all_fit w h ops = list_all (fits w h) ops
 -- the place of the first that doesn't fit, if there is one
 abbrev pub first_unfit : ℕ → ℕ → List Op → Option ℕ
 first_unfit w h ops = position (λ op. not (fits w h op)) ops
+
+-- what one operation makes of a picture, and what a list of them makes, in order
+abbrev pub drawn_by : Grid Cell → Op → Grid Cell
+drawn_by p (Fill rect colour) = filled p rect colour
+
+abbrev pub drawn : Grid Cell → List Op → Grid Cell
+drawn p ops = fold drawn_by p ops

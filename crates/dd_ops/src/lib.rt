@@ -1,8 +1,8 @@
-//! The drawing operations of a present, and the list of them.
+//! The drawing operations of a present, the list of them, and what they draw.
 #![tactic(auto)]
 
 mod lists;
 mod operations;
 
 pub use lists::{Colours, MAX_OPS, Ops, OpsFault};
-pub use operations::{COLOURS, Op, fits};
+pub use operations::{COLOURS, Op, apply, fits};

@@ -29,6 +29,17 @@ impl<T: Drop> From<AllocFailed<T>> for OpsFault {
     }
 }
 
+/// Equal operations, in their order.
+fn copies(alloc: Global, ops: &[Op]) -> Result<Vec<Op>, AllocError>
+    ensures { IfOk result (λ v. v.items ≡ ops.now) }
+{
+    let mut items = Vec::with_capacity(alloc, ops.len())?;
+    for op in ops {
+        items.push(op.copy())?;
+    }
+    Ok(items)
+}
+
 /// The operations of one present, in their order: at most 64.
 #[derive(Debug, Drop)]
 pub struct Ops {
@@ -69,6 +80,14 @@ impl Ops {
         }
         self.items.push(op)?;
         Ok(())
+    }
+
+    /// An equal list, on memory of its own.
+    pub fn copy(&self) -> Result<Ops, AllocError>
+        ensures { IfOk result (λ ops. ops ≡ self.now) }
+    {
+        let items = copies(*self.items.allocator(), self.as_slice())?;
+        Ok(Ops { items })
     }
 
     pub fn as_slice(&self) -> &[Op]

@@ -5,7 +5,7 @@ use Rattle.dd_ops.specs.declared.operations.Op.TheVariants.{Fill}
 use Rattle.dd_geom.specs.Grid.{Grid}
 use Rattle.dd_ops.specs.Operations.{fits}
 use Rattle.dd_acc.specs.Effects.{dirtied, with_drawn}
-use Rattle.dd_acc.proofs.Origins.{dirtied-none, dirtied-push, width-dirtied, height-dirtied, fits_at}
+use Rattle.dd_acc.proofs.Origins.{dirtied-none, dirtied_more, width-dirtied, height-dirtied, fits_at}
 use Rattle.dd_acc.proofs.interval.add_touched.Goals as goal
 
 pub loop-op-init : goal.loop-op-init
@@ -22,9 +22,5 @@ add_drawn-requires g c =
 
 pub loop-op-preserved : goal.loop-op-preserved
 loop-op-preserved g c =
-    let old = g.A.Area.points c.args.area.now in
-    let so_far = c.loop-op.invariant in
-    c.in_ok-add_drawn.ensures
-    ∙ ap (λ (s : Grid Bool). with_drawn s _) so_far
-    ∙ dirtied-push old (take c.loop-op.op-index c.args.ops.now) _
-    ∙ ap (dirtied old) (sym (take_more c.args.ops.now c.loop-op.op-index _ c.loop-op-test.true))
+    c.in_ok-add_drawn.ensures.ok
+    ∙ dirtied_more (g.A.Area.points c.args.area.now) (g.A.Area.points c.loop-op.area) c.args.ops.now c.loop-op.op-index _ c.loop-op-test.true c.loop-op.invariant

@@ -1,0 +1,11 @@
+//! One duplicator: it acquires frames of the list at its own pace.
+#![tactic(auto)]
+
+mod counting;
+mod duplicator;
+mod forward;
+mod frame;
+
+pub use dd_log::{DupRefusal, FrameInfo, Pointer};
+pub use duplicator::Dup;
+pub use frame::Frame;

@@ -1,0 +1,15 @@
+-- Operations that fit, and what they draw one after another.
+use Rattle.std.proofs.Common.{◌≡◌, ℕ, ◌+◌, ◌<◌, true, List, length, take, get_or, sym, ap, ◌∙◌}
+use Rattle.std.proofs.lemmas.List.Sums.{AllPass-from_list_all, fold_more}
+use Rattle.dd_geom.specs.Grid.{Grid}
+use Rattle.dd_grid.specs.Cell.{Cell}
+use Rattle.dd_ops.specs.declared.operations.Op.{Op}
+use Rattle.dd_ops.specs.Operations.{fits, all_fit, drawn, drawn_by}
+
+-- each operation of a list that fits does
+pub fits_at : (w h : ℕ) (ops : List Op) (k : ℕ) (d : Op) → all_fit w h ops ≡ true → k < length ops → fits w h (get_or ops k d) ≡ true
+fits_at w h ops k d t k_in = AllPass-from_list_all (fits w h) ops t k d k_in
+
+-- one operation more
+pub drawn_more : (p q : Grid Cell) (ops : List Op) (k : ℕ) (d : Op) → k < length ops → q ≡ drawn p (take k ops) → drawn_by q (get_or ops k d) ≡ drawn p (take (k + 1) ops)
+drawn_more p q ops k d k_in so_far = ap (λ g. drawn_by g (get_or ops k d)) so_far ∙ sym (fold_more drawn_by p ops k d k_in)
