@@ -4,6 +4,8 @@
 mod cell;
 mod picture;
 mod surface;
+#[cfg(test)]
+mod tests;
 
 pub use picture::Picture;
 pub use surface::Surface;

@@ -70,13 +70,8 @@ impl Picture {
     {
         let width = self.width as usize;
         let height = self.height as usize;
-        paint(
-            &mut self.cells,
-            width,
-            height,
-            sides_of(r),
-            Pixel::plain(colour),
-        );
+        let sides = sides_of(r);
+        paint(&mut self.cells, width, height, sides, Pixel::plain(colour));
     }
 
     /// The cell at a point.
