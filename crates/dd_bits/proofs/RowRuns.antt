@@ -1,5 +1,5 @@
 -- The runs of a row, found one after another: what is left to find from a column on.
-use Rattle.std.proofs.Common.{◌≡◌, ◌≢◌, ℕ, zero, suc, ◌+◌, ◌-◌, ◌<◌, ◌≤◌, List, [], ◌∷◌, ◌++◌, Bool, true, false, not, cond, ◌&&◌, nat_lt, if◌then◌else◌, refl, sym, ap, ◌∙◌, arith, append_assoc, add-one, zero-add, length, ◌*◌, rules, tests, inl, inr}
+use Rattle.std.proofs.Common.{◌≡◌, ◌≢◌, ℕ, zero, suc, ◌+◌, ◌-◌, ◌<◌, ◌≤◌, List, [], ◌∷◌, ◌++◌, Bool, true, false, not, ◌&&◌, nat_lt, refl, sym, ap, ◌∙◌, arith, append_assoc, add-one, zero-add, length, ◌*◌, rules, tests, inl, inr}
 use Rattle.std.proofs.Math.Path.{fun_ext}
 use Rattle.std.proofs.lemmas.List.{append-nil, get_or-take, get_or-drop, get_or_past}
 use Rattle.std.proofs.lemmas.Bool.{cases_lt, false≢true}
@@ -73,11 +73,11 @@ one_run p w y left right s r l =
 unmarked_before : (p : ℕ → Bool) (from left : ℕ) → (0 < from → p from ≡ false) → HasNone p true from left → from ≤ left → p left ≡ true → 0 < left → p (left - 1) ≡ false
 unmarked_before p from left fresh none l at_left h =
     elim (cases_lt from left) [
-        inl a ↦ not_true (p (left - 1)) (none (left - 1) (omega arith) (omega arith))
+      | inl a ↦ not_true (p (left - 1)) (none (left - 1) (omega arith) (omega arith))
       | inr b ↦
-            let same : from ≡ left = omega arith in
-            let no : p from ≡ false = fresh (omega arith) in
-            absurd (false≢true (sym no ∙ ap p same ∙ at_left))
+          let same : from ≡ left = omega arith in
+          let no : p from ≡ false = fresh (omega arith) in
+          absurd (false≢true (sym no ∙ ap p same ∙ at_left))
     ]
 
 -- what is left to find begins with the first run
@@ -110,17 +110,17 @@ pub row_runs-blank : (p : ℕ → Bool) (w y : ℕ) (now : List Rect) → HasNon
 row_runs-blank p w y now none =
     let all : w - 0 ≡ w = omega arith in
     let start : IsDone p w y 0 now now = record {
-            within = omega arith;
-            fresh = λ l. absurd (omega arith);
-            so_far = ap (λ n. now ++ runs_from p w y 0 n) all;
-          } in
+      within = omega arith;
+      fresh = λ l. absurd (omega arith);
+      so_far = ap (λ n. now ++ runs_from p w y 0 n) all;
+    } in
     IsDone-all p w y 0 now now start none
 
 -- the cells of a row are the set along it
 cell_at-row : (g : Grid Bool) (y x : ℕ) → length (row g y) ≡ g.width → y < g.height → cell_at (row g y) x ≡ is_in g x y
 cell_at-row g y x long down =
     elim (cases_lt x g.width) [
-        inl a ↦ get_or-take g.width _ x false a ∙ get_or-drop (y * g.width) g.cells x false ∙ sym (value_at-place false g.width g.height g.cells x y a down)
+      | inl a ↦ get_or-take g.width _ x false a ∙ get_or-drop (y * g.width) g.cells x false ∙ sym (value_at-place false g.width g.height g.cells x y a down)
       | inr b ↦ get_or_past (row g y) x false (omega arith) ∙ sym (value_at-right false g x y b)
     ]
 
