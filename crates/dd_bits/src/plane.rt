@@ -28,7 +28,8 @@ impl Model for Plane {
 
     ghost view = { λ p. record { width = p.width; height = p.height; cells = p.cells.items } };
 
-    ghost invariant = { λ p. IsArea (record { width = p.width; height = p.height; cells = p.cells.items }) };
+    ghost invariant = { λ p.
+        IsArea (record { width = p.width; height = p.height; cells = p.cells.items }) };
 }
 
 impl Plane {
