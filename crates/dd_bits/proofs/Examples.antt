@@ -1,5 +1,5 @@
 -- The list of runs of small sets on a surface of 4 by 3, computed from its definition.
-use Rattle.std.proofs.Common.{◌≡◌, ℕ, pos, List, [], ◌∷◌, refl}
+use Rattle.std.proofs.Common.{◌≡◌, ℕ, pos, [], ◌∷◌, refl}
 use Rattle.dd_geom.specs.declared.rect.Rect.{Rect}
 use Rattle.dd_bits.specs.Area.{nowhere, with_rect}
 use Rattle.dd_bits.specs.Runs.{run_end, runs}

@@ -33,7 +33,7 @@ end_further p k n e m d = record {
   from = omega (arith, d.from);
   within = omega (arith, d.within);
   marked = λ x a b. elim (cases_lt k x) [
-      inl l ↦ d.marked x (omega arith) b
+    | inl l ↦ d.marked x (omega arith) b
     | inr l ↦ let s : k ≡ x = omega arith in ap p (sym s) ∙ m
   ];
 }
@@ -45,7 +45,7 @@ run_end-IsEnd p zero k = end_here p k 0 k refl
 run_end-IsEnd p (suc n) k =
     let P : Bool → Type 0 = λ b. p k ≡ b → IsEnd p k (suc n) (if b then run_end p (k + 1) n else k) in
     let cases : (b : Bool) → P b = λ b. elim b as P [
-        true ↦ λ m. end_further p k n _ m (run_end-IsEnd p n (k + 1))
+      | true ↦ λ m. end_further p k n _ m (run_end-IsEnd p n (k + 1))
       | false ↦ λ m. end_here p k (suc n) k refl
     ] in
     cases (p k) refl

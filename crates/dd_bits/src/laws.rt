@@ -5,11 +5,9 @@ ghost use Rattle.dd_bits.specs.Runs.{RunsCover, RunsInside};
 /// Each point of the set lies in exactly one rectangle of its list, and no other point lies in any.
 pub fn runs_cover()
     ensures { RunsCover }
-{
-}
+{}
 
 /// Each rectangle of the list lies inside the surface.
 pub fn runs_inside()
     ensures { RunsInside }
-{
-}
+{}

@@ -5,7 +5,6 @@ mod area;
 mod laws;
 mod plane;
 mod runs;
-
 #[cfg(test)]
 mod tests;
 

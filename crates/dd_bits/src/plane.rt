@@ -28,7 +28,8 @@ impl Model for Plane {
 
     ghost view = { λ p. record { width = p.width; height = p.height; cells = p.cells.items } };
 
-    ghost invariant = { λ p. IsArea (record { width = p.width; height = p.height; cells = p.cells.items }) };
+    ghost invariant = { λ p.
+        IsArea (record { width = p.width; height = p.height; cells = p.cells.items }) };
 }
 
 impl Plane {
@@ -48,6 +49,10 @@ impl Plane {
 }
 
 impl Area for Plane {
+    ghost use Rattle.std.specs.Prelude.{IsTrue, IsOk, OnOk, OnErr};
+    ghost use Rattle.dd_geom.specs.Rect.{is_inside};
+    ghost use Rattle.dd_bits.specs.Area.{with_rect};
+
     ghost points = { λ p. p };
 
     fn empty(alloc: Global, w: u32, h: u32) -> Result<Plane, AllocError> {
@@ -60,7 +65,14 @@ impl Area for Plane {
     }
 
     /// Takes no memory.
-    fn add(&mut self, r: Rect) -> Result<(), AllocError> {
+    fn add(&mut self, r: Rect) -> Result<(), AllocError>
+        requires { IsTrue (is_inside r self.old.width self.old.height) }
+        ensures succeeds { IsOk result }
+        ensures ok { OnOk result (self.new ≡ with_rect self.old r) }
+        ensures err { OnErr result (self.new ≡ self.old) }
+        ensures width { self.new.width ≡ self.old.width }
+        ensures height { self.new.height ≡ self.old.height }
+    {
         let width = self.width as usize;
         let height = self.height as usize;
         paint(&mut self.cells, width, height, sides_of(r), true);

@@ -65,8 +65,8 @@ fn next_run(row: &[bool], from: usize) -> Option<Run>
     Some(Run { left, right })
 }
 
-/// Whether no column of the row is marked. It looks at each cell with no branch, so that a blank row
-/// costs little.
+/// Whether no column of the row is marked. It looks at each cell without a branch, so that a blank
+/// row costs little.
 fn is_blank(row: &[bool]) -> bool
     ensures { OnTrue result (HasNone (cell_at row.now) true 0 (length row.now)) }
 {

@@ -95,8 +95,9 @@ fn run_cases<A: Area>(rt: &impl Abort, alloc: Global) -> Result<(), AllocError> 
         let name = case.name;
         let area: A = area_of(rt, alloc, case.added)?;
         for y in 0..HEIGHT {
+            let row = case.points[y as usize];
             for x in 0..WIDTH {
-                let marked = case.points[y as usize][x as usize] == b'#';
+                let marked = row[x as usize] == b'#';
                 assert_eq!(rt; area.has(x, y), marked, "{name}, at ({x}, {y})");
             }
         }

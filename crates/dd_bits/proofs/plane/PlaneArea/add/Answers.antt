@@ -11,4 +11,8 @@ returns-clause-ok c =
     let long : length c.paint.new.cells ≡ p.cells.len = omega arith in
     let before = c.deref_mut.ensures.value in
     ap of (with_items_is p.cells c.paint.new.cells long)
-    ∙ painted_rect p.width p.height c.args.r c.sides_of.result _ _ _ c.sides_of.ensures (ap of before ∙ c.self.view_is) (ap length before ∙ c.self.invariant.whole) (omega (arith, c.self.invariant.whole)) c.paint.ensures
+    ∙ painted_rect p.width p.height c.args.r c.sides_of.result _ _ _ c.sides_of.ensures
+    (ap of before ∙ c.self.view_is)
+    (ap length before ∙ c.self.invariant.whole)
+    (omega (arith, c.self.invariant.whole))
+    c.paint.ensures

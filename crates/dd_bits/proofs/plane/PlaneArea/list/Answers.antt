@@ -7,7 +7,8 @@ pub loop-y-preserved : goal.loop-y-preserved
 loop-y-preserved c =
     let g : Grid Bool = c.args.self.now in
     let down : c.loop-y.y < g.height = omega (arith, ap (λ (v : Grid Bool). v.height) c.self.view_is) in
-    row_pushed g c.loop-y.y c.row.result.now c.loop-y.out.items _ c.in_ok-push_runs.ensures c.loop-y.invariant c.row.ensures.cells c.row.ensures.width down
+    row_pushed g c.loop-y.y c.row.result.now c.loop-y.out.items _
+    c.in_ok-push_runs.ensures c.loop-y.invariant c.row.ensures.cells c.row.ensures.width down
 
 pub returns : goal.returns
 returns c =
