@@ -2,13 +2,10 @@
 
 ghost use Rattle.std.specs.Prelude.{◌≡◌, ◌≤◌, IsTrue, IfOk, All, length};
 ghost use Rattle.dd_geom.specs.Rect.{IsSize, is_inside};
-ghost use Rattle.dd_grid.specs.Drawing.{seen};
-ghost use Rattle.dd_acc.specs.Effects.{dirt};
-ghost use Rattle.dd_acc.specs.Rebuild.{copied};
 ghost use Rattle.dd_log.specs.History.{event_fits, entries_fit};
 ghost use Rattle.dd_log.specs.Desk.{shown_after, shown, presents};
 ghost use Rattle.dd_log.specs.declared.events.TheConstants.{MAX_CAPACITY};
-ghost use Rattle.dd_dup.specs.Forward.{with_event, accumulated};
+ghost use Rattle.dd_dup.specs.Forward.{with_event, accumulated, copied_each};
 
 use dd_acc::Acc;
 use dd_bits::Plane;
@@ -79,7 +76,7 @@ pub(crate) fn copy_dirt(surface: &mut Surface, rects: &[Rect], picture: &Picture
     requires inside { All (λ r. IsTrue (is_inside r surface.old.width surface.old.height)) rects.now }
     requires width { picture.now.width ≡ surface.old.width }
     requires height { picture.now.height ≡ surface.old.height }
-    ensures copied { surface.new ≡ copied surface.old rects.now (seen picture.now) }
+    ensures copied { surface.new ≡ copied_each surface.old rects.now picture.now }
     ensures width_kept { surface.new.width ≡ surface.old.width }
     ensures height_kept { surface.new.height ≡ surface.old.height }
 {

@@ -1,0 +1,137 @@
+-- Entries one after another: what one more adds to the presents, the picture and what is accumulated.
+use Rattle.std.proofs.Common.{◌≡◌, ℕ, ◌+◌, ◌<◌, ◌≤◌, true, List, [], ◌∷◌, ◌++◌, length, take, get_or, refl, sym, ap, ◌∙◌, append-nil, arith, length-append}
+use Rattle.std.specs.List.{fold, flat_map}
+use Rattle.std.proofs.lemmas.List.{take_more}
+use Rattle.std.proofs.lemmas.List.Concat.{flat_map-append}
+use Rattle.std.proofs.lemmas.List.Sums.{AllPass-from_list_all, fold_push}
+use Rattle.std.proofs.lemmas.List.{length-take}
+use Rattle.dd_geom.specs.Grid.{Grid}
+use Rattle.dd_grid.specs.Cell.{Cell}
+use Rattle.dd_bits.specs.Area.{nowhere}
+use Rattle.dd_ops.specs.declared.operations.Op.{Op}
+use Rattle.dd_ops.specs.Operations.{drawn}
+use Rattle.dd_acc.specs.Effects.{dirtied}
+use Rattle.dd_acc.specs.Interval.{Interval, nothing, with_present}
+use Rattle.dd_acc.proofs.Origins.{width-dirtied, height-dirtied}
+use Rattle.dd_log.specs.declared.events.Entry.{Entry}
+use Rattle.dd_log.specs.declared.events.Event.{Event}
+use Rattle.dd_log.specs.declared.events.Event.TheVariants.{Opened}
+use Rattle.dd_log.specs.declared.events.Event.TheVariants as events
+use Rattle.dd_log.specs.declared.events.Draw.TheVariants.{Present}
+use Rattle.dd_log.specs.History.{event_fits, entries_fit}
+use Rattle.dd_log.specs.Desk.{present_of, presents, shown, shown_after}
+use Rattle.dd_dup.specs.Forward.{with_event, with_entries, accumulated}
+
+-- the entry at a place joins those before it
+take_item : (es : List Entry) (k : ℕ) (e : Entry) → k < length es → e ≡ get_or es k e → take (k + 1) es ≡ take k es ++ e ∷ []
+take_item es k e k_in is = take_more es k e k_in ∙ ap (λ x. take k es ++ x ∷ []) (sym is)
+
+pub presents_none : length (presents []) ≡ 0
+unfolding presents
+presents_none = refl
+
+pub presents_more : (es : List Entry) (k : ℕ) (e : Entry) → k < length es → e ≡ get_or es k e
+    → length (presents (take (k + 1) es)) ≡ length (presents (take k es)) + length (present_of e.event)
+unfolding presents
+presents_more es k e k_in is =
+    ap (λ xs. length (presents xs)) (take_item es k e k_in is)
+    ∙ ap length (flat_map-append (λ x. present_of x.event) (take k es) (e ∷ []))
+    ∙ length-append (presents (take k es)) (present_of e.event ++ [])
+    ∙ ap (λ xs. length (presents (take k es)) + length xs) (append-nil (present_of e.event))
+
+pub shown_more : (p q : Grid Cell) (es : List Entry) (k : ℕ) (e : Entry) → k < length es → e ≡ get_or es k e → q ≡ shown p (take k es)
+    → shown_after q e.event ≡ shown p (take (k + 1) es)
+shown_more p q es k e k_in is so_far =
+    ap (λ g. shown_after g e.event) so_far
+    ∙ sym (fold_push (λ g x. shown_after g x.event) p (take k es) e)
+    ∙ ap (shown p) (sym (take_item es k e k_in is))
+
+pub accumulated_none : (w h : ℕ) → accumulated w h [] ≡ nothing w h
+unfolding accumulated
+accumulated_none w h = refl
+
+pub accumulated_more : (w h : ℕ) (i : Interval) (es : List Entry) (k : ℕ) (e : Entry) → k < length es → e ≡ get_or es k e → i ≡ accumulated w h (take k es)
+    → with_event i e.event ≡ accumulated w h (take (k + 1) es)
+unfolding accumulated
+accumulated_more w h i es k e k_in is so_far =
+    ap (λ j. with_event j e.event) so_far
+    ∙ sym (fold_push (λ j x. with_event j x.event) (nothing w h) (take k es) e)
+    ∙ ap (with_entries (nothing w h)) (sym (take_item es k e k_in is))
+
+-- each entry of a list that fits does
+pub fit_item : (w h : ℕ) (es : List Entry) (k : ℕ) (e : Entry) → entries_fit w h es ≡ true → k < length es → e ≡ get_or es k e → event_fits w h e.event ≡ true
+unfolding entries_fit
+fit_item w h es k e t k_in is = ap (λ (x : Entry). event_fits w h x.event) is ∙ AllPass-from_list_all (λ (x : Entry). event_fits w h x.event) es t k e k_in
+
+-- accumulating keeps the size, and counts presents
+width-with_event : (i : Interval) (e : Event) → (with_event i e).area.width ≡ i.area.width
+width-with_event i (events.Draw (Present ops)) = width-dirtied i.area ops
+width-with_event i (Opened slot app) = refl
+
+height-with_event : (i : Interval) (e : Event) → (with_event i e).area.height ≡ i.area.height
+height-with_event i (events.Draw (Present ops)) = height-dirtied i.area ops
+height-with_event i (Opened slot app) = refl
+
+width-with_entries : (es : List Entry) (i : Interval) → (with_entries i es).area.width ≡ i.area.width
+width-with_entries [] i = refl
+width-with_entries (e ∷ es) i = width-with_entries es (with_event i e.event) ∙ width-with_event i e.event
+
+height-with_entries : (es : List Entry) (i : Interval) → (with_entries i es).area.height ≡ i.area.height
+height-with_entries [] i = refl
+height-with_entries (e ∷ es) i = height-with_entries es (with_event i e.event) ∙ height-with_event i e.event
+
+pub width-accumulated : (w h : ℕ) (es : List Entry) → (accumulated w h es).area.width ≡ w
+unfolding accumulated
+width-accumulated w h es = width-with_entries es (nothing w h)
+
+pub height-accumulated : (w h : ℕ) (es : List Entry) → (accumulated w h es).area.height ≡ h
+unfolding accumulated
+height-accumulated w h es = height-with_entries es (nothing w h)
+
+frames-with_event : (i : Interval) (e : Event) → (with_event i e).frames ≡ i.frames + length (present_of e)
+frames-with_event i (events.Draw (Present ops)) = refl
+frames-with_event i (Opened slot app) = omega arith
+
+pub frames-with_entries : (es : List Entry) (i : Interval) → (with_entries i es).frames ≡ i.frames + length (presents es)
+unfolding presents
+frames-with_entries [] i = omega arith
+frames-with_entries (e ∷ es) i =
+    omega (arith, frames-with_entries es (with_event i e.event), frames-with_event i e.event, length-append (present_of e.event) (presents es))
+
+few_presents : (e : Event) → length (present_of e) ≤ 1
+few_presents (events.Draw (Present ops)) = omega arith
+few_presents (Opened slot app) = omega arith
+
+pub length-presents : (es : List Entry) → length (presents es) ≤ length es
+unfolding presents
+length-presents [] = omega arith
+length-presents (e ∷ es) = omega (arith, length-presents es, few_presents e.event, length-append (present_of e.event) (presents es))
+
+pub frames-accumulated : (w h : ℕ) (es : List Entry) → (accumulated w h es).frames ≡ length (presents es)
+unfolding accumulated
+frames-accumulated w h es = frames-with_entries es (nothing w h) ∙ omega arith
+
+pub few_frames : (w h k n : ℕ) (es : List Entry) (i : Interval) → k ≤ n → i ≡ accumulated w h (take k es) → i.frames ≤ n
+few_frames w h k n es i k_in so_far =
+    omega (arith, ap (λ (j : Interval). j.frames) so_far, frames-accumulated w h (take k es), length-presents (take k es), length-take k es)
+
+area-with_entries : (es : List Entry) (i : Interval) → (with_entries i es).area ≡ fold dirtied i.area (presents es)
+unfolding presents
+area-with_entries [] i = refl
+area-with_entries (e ∷ es) i = area-with_entries es (with_event i e.event) ∙ one i e.event (presents es) where
+  one : (i : Interval) (e : Event) (ps : List (List Op)) → fold dirtied (with_event i e).area ps ≡ fold dirtied i.area (present_of e ++ ps)
+  one i (events.Draw (Present ops)) ps = refl
+  one i (Opened slot app) ps = refl
+
+pub area-accumulated : (w h : ℕ) (es : List Entry) → (accumulated w h es).area ≡ fold dirtied (nowhere w h) (presents es)
+unfolding accumulated
+area-accumulated w h es = area-with_entries es (nothing w h)
+
+-- what entries show is what their presents draw
+pub shown-presents : (es : List Entry) (p : Grid Cell) → shown p es ≡ fold drawn p (presents es)
+unfolding presents
+shown-presents [] p = refl
+shown-presents (e ∷ es) p = shown-presents es (shown_after p e.event) ∙ one p e.event (presents es) where
+  one : (p : Grid Cell) (e : Event) (ps : List (List Op)) → fold drawn (shown_after p e) ps ≡ fold drawn p (present_of e ++ ps)
+  one p (events.Draw (Present ops)) ps = refl
+  one p (Opened slot app) ps = refl

@@ -1,0 +1,7 @@
+use Rattle.std.proofs.Common.{◌≡◌, take}
+use Rattle.dd_dup.specs.Forward.{copied_each}
+use Rattle.dd_dup.proofs.forward.copy_dirt.Given as goal
+
+abbrev pub invariant-loop-rect : goal.invariant-loop-rect
+invariant-loop-rect l =
+    (l.surface ≡ copied_each l.fn.surface (take l.rect-index l.rects) l.picture) × (l.surface.width ≡ l.fn.surface.width) × (l.surface.height ≡ l.fn.surface.height)
