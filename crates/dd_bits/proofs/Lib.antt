@@ -3,3 +3,4 @@ pub mod RowRuns
 pub mod Cover
 pub mod PlaneGrids
 pub mod Examples
+pub mod Few

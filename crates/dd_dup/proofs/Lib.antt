@@ -1,2 +1,4 @@
 pub mod Entries
 pub mod Copies
+pub mod Advance
+pub mod Frames

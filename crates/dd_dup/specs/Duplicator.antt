@@ -1,10 +1,14 @@
 -- A duplicator's value, as contracts see it.
-use Rattle.std.specs.Prelude.{◌≡◌, ℕ, ◌*◌, length, Result, Ok, Err, Option, Some, None}
-use Rattle.std.specs.Option.{option_map}
+use Rattle.std.specs.Prelude.{◌≡◌, ℕ, List, [], Option, Some, None, option_map}
+use Rattle.dd_geom.specs.declared.rect.Rect.{Rect}
+use Rattle.dd_geom.specs.declared.rect.Move.{Move}
+use Rattle.dd_acc.specs.Rebuild.{rebuild}
+use Rattle.dd_log.specs.declared.answers.FrameInfo.{FrameInfo}
+use Rattle.dd_dup.specs.declared.frame.Frame.{Frame}
 use Rattle.dd_geom.specs.Grid.{Grid}
 use Rattle.dd_grid.specs.Cell.{Cell}
 use Rattle.dd_modes.specs.declared.modes.Mode.{Mode}
-use Rattle.dd_dup.specs.Reply.{Memory}
+use Rattle.dd_dup.specs.Reply.{Memory, release_memory}
 
 -- its memory, its own surface and picture, and the mode that it was opened in
 pub record Duplicator : Type 0 where
@@ -12,3 +16,32 @@ pub record Duplicator : Type 0 where
   pub surface : Grid ℕ
   pub picture : Grid Cell
   pub mode : Mode
+
+abbrev pub duplicator : ℕ → ℕ → Option Frame → Grid ℕ → Grid Cell → Mode → Duplicator
+duplicator opened mark held surface picture mode = record { memory = record { opened = opened; mark = mark; held = held }; surface = surface; picture = picture; mode = mode }
+
+-- the surface that is lent: none where no frame is held
+abbrev pub lent : Duplicator → Option (Grid ℕ)
+lent d = option_map (λ f. d.surface) d.memory.held
+
+-- the lists of the held frame
+abbrev pub held_moves : Option Frame → List Move
+held_moves None = []
+held_moves (Some f) = f.moves
+
+abbrev pub held_info : Option Frame → Option FrameInfo
+held_info None = None
+held_info (Some f) = Some f.info
+
+abbrev pub held_dirt : Option Frame → List Rect
+held_dirt None = []
+held_dirt (Some f) = f.dirt
+
+-- a duplicator after a release
+abbrev pub released : Duplicator → Duplicator
+released d = record { memory = release_memory d.memory; surface = d.surface; picture = d.picture; mode = d.mode }
+
+-- The surface before, with the moves of the frame drawn in order and then its dirty points copied from the surface
+-- after, is the surface after.
+abbrev pub Rebuilds : Grid ℕ → Option Frame → Grid ℕ → Type 0
+Rebuilds before held after = rebuild before (held_moves held) (held_dirt held) after ≡ after

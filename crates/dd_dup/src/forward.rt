@@ -2,6 +2,9 @@
 
 ghost use Rattle.std.specs.Prelude.{◌≡◌, ◌≤◌, IsTrue, IfOk, All, length};
 ghost use Rattle.dd_geom.specs.Rect.{IsSize, is_inside};
+ghost use Rattle.dd_grid.specs.Drawing.{seen};
+ghost use Rattle.dd_acc.specs.Rebuild.{copied};
+ghost use Rattle.dd_dup.specs.Reply.{dirt_of};
 ghost use Rattle.dd_log.specs.History.{event_fits, entries_fit};
 ghost use Rattle.dd_log.specs.Desk.{shown_after, shown, presents};
 ghost use Rattle.dd_log.specs.declared.events.TheConstants.{MAX_CAPACITY};
@@ -83,4 +86,24 @@ pub(crate) fn copy_dirt(surface: &mut Surface, rects: &[Rect], picture: &Picture
     for rect in rects {
         surface.take(*rect, picture);
     }
+}
+
+/// Brings a picture, and the surface of what is seen of it, forward by the entries that are new.
+///
+/// `rects` are the dirty rectangles of these entries. It takes no memory.
+pub(crate) fn advance(
+    picture: &mut Picture,
+    surface: &mut Surface,
+    entries: &[Entry],
+    rects: &[Rect],
+)
+    requires fit { IsTrue (entries_fit picture.old.width picture.old.height entries.now) }
+    requires seen { surface.old ≡ seen picture.old }
+    requires dirt { rects.now ≡ dirt_of picture.old.width picture.old.height entries.now }
+    ensures picture { picture.new ≡ shown picture.old entries.now }
+    ensures surface { surface.new ≡ seen (shown picture.old entries.now) }
+    ensures rebuilt { copied surface.old rects.now surface.new ≡ surface.new }
+{
+    draw_entries(picture, entries);
+    copy_dirt(surface, rects, picture);
 }

@@ -1,6 +1,8 @@
 //! Each public call once, with answers worked out by hand.
 
-use crate::{Move, Moves, Point, Rect, Rects, Sides, contains, intersect, paint, rect_inside, sides_of};
+use crate::{
+    Move, Moves, Point, Rect, Rects, Sides, contains, intersect, paint, rect_inside, sides_of,
+};
 use std::test::Fail;
 
 fn rect(left: i32, top: i32, right: i32, bottom: i32) -> Rect {

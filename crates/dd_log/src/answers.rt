@@ -1,8 +1,12 @@
 //! The plain types of answers.
 
+ghost use Rattle.std.specs.Prelude.{◌≡◌};
+ghost use Rattle.dd_log.specs.declared.answers.DupRefusal.TheVariants.{OutOfMemory};
+
 use crate::lists::Rows;
 use dd_geom::{Moves, Point, Rects};
 use dd_io::Bytes;
+use std::alloc::AllocError;
 use thiserror::Error;
 
 /// Where the pointer is, and whether it is shown.
@@ -64,6 +68,14 @@ pub enum DupRefusal {
     WaitTimeout,
     #[error("out of memory")]
     OutOfMemory,
+}
+
+impl From<AllocError> for DupRefusal {
+    ghost from_gives = { λ _ refusal. refusal ≡ OutOfMemory };
+
+    fn from(_e: AllocError) -> DupRefusal {
+        DupRefusal::OutOfMemory
+    }
 }
 
 /// The answer to one step.
