@@ -1,0 +1,77 @@
+-- No answer holds a number with a fraction, so its text is told byte for byte.
+use Rattle.std.proofs.Common.{◌≡◌, ℕ, ℤ, pos, negsuc, false, List, [], ◌∷◌, map, Option, Some, None, refl}
+use Rattle.serde_json.specs.Data.{Data}
+use Rattle.serde_json.specs.Find.{is_float, of_integer}
+use Rattle.serde_json.specs.View.{items_of}
+use Rattle.serde_json.specs.Written.{has_float, items_have_float}
+use Rattle.dd_geom.specs.declared.rect.Point.{Point}
+use Rattle.dd_geom.specs.declared.rect.Rect.{Rect}
+use Rattle.dd_geom.specs.declared.rect.Move.{Move}
+use Rattle.dd_log.specs.declared.answers.FrameInfo.{FrameInfo}
+use Rattle.dd_log.specs.declared.answers.Answer.{Answer}
+use Rattle.dd_log.specs.declared.answers.Answer.TheVariants as answer
+use Rattle.dd_log.specs.declared.answers.LogRefusal.TheVariants as drawing
+use Rattle.dd_log.specs.declared.answers.OpenRefusal.TheVariants as opening
+use Rattle.dd_log.specs.declared.answers.DupRefusal.TheVariants as call
+use Rattle.dd_script.specs.Answers.{point_tree, rect_tree, move_tree, info_tree, frame_tree, row_tree, surface_tree, refusal_tree, log_refusal_tree, open_refusal_tree, dup_refusal_tree, answer_tree}
+
+coordinate_has_none : (z : ℤ) → is_float (of_integer z) ≡ false
+coordinate_has_none (pos n) = refl
+coordinate_has_none (negsuc n) = refl
+
+list_has_none : {T : Type 0} (f : T → Data) → ((x : T) → has_float (f x) ≡ false) → (xs : List T) → items_have_float (items_of (map f xs)) ≡ false
+list_has_none f h [] = refl
+list_has_none f h (x ∷ xs) = rw (h x, list_has_none f h xs)
+
+point_has_none : (p : Point) → has_float (point_tree p) ≡ false
+unfolding point_tree
+point_has_none p = simp coordinate_has_none
+
+rect_has_none : (r : Rect) → has_float (rect_tree r) ≡ false
+unfolding rect_tree
+rect_has_none r = simp coordinate_has_none
+
+move_has_none : (m : Move) → has_float (move_tree m) ≡ false
+unfolding move_tree
+move_has_none m = simp coordinate_has_none
+
+info_has_none : (i : FrameInfo) → has_float (info_tree i) ≡ false
+unfolding info_tree
+info_has_none i = simp point_has_none
+
+frame_has_none : (i : FrameInfo) (ms : List Move) (rs : List Rect) → has_float (frame_tree i ms rs) ≡ false
+unfolding frame_tree
+frame_has_none i ms rs = rw (list_has_none rect_tree rect_has_none rs, info_has_none i, list_has_none move_tree move_has_none ms)
+
+surface_has_none : (rows : Option (List (List ℕ))) → has_float (surface_tree rows) ≡ false
+unfolding surface_tree
+surface_has_none None = refl
+surface_has_none (Some rows) = rw (list_has_none row_tree (λ _. refl) rows)
+
+refusal_has_none : (buffer code : Option (List ℕ)) (op : Option ℕ) (name : List ℕ) → has_float (refusal_tree buffer code op name) ≡ false
+unfolding refusal_tree
+refusal_has_none None None None name = refl
+refusal_has_none None None (Some op) name = refl
+refusal_has_none None (Some code) None name = refl
+refusal_has_none None (Some code) (Some op) name = refl
+refusal_has_none (Some bytes) None None name = refl
+refusal_has_none (Some bytes) None (Some op) name = refl
+refusal_has_none (Some bytes) (Some code) None name = refl
+refusal_has_none (Some bytes) (Some code) (Some op) name = refl
+
+pub answer_has_no_float : (a : Answer) → has_float (answer_tree a) ≡ false
+unfolding answer_tree log_refusal_tree open_refusal_tree dup_refusal_tree
+answer_has_no_float (answer.Entered entry) = refl
+answer_has_no_float (answer.NotDrawn drawing.Full) = refusal_has_none _ _ _ _
+answer_has_no_float (answer.NotDrawn (drawing.BadRect op)) = refusal_has_none _ _ _ _
+answer_has_no_float (answer.Opened entry slot) = refl
+answer_has_no_float (answer.NotOpened opening.AlreadyDuplicating) = refusal_has_none _ _ _ _
+answer_has_no_float (answer.NotOpened opening.NotAvailable) = refusal_has_none _ _ _ _
+answer_has_no_float (answer.NotOpened opening.Full) = refusal_has_none _ _ _ _
+answer_has_no_float (answer.Frame info moves dirt) = frame_has_none info moves dirt
+answer_has_no_float answer.Released = refl
+answer_has_no_float (answer.Surface rows) = surface_has_none rows
+answer_has_no_float (answer.Refused call.InvalidCall buffer) = refusal_has_none _ _ _ _
+answer_has_no_float (answer.Refused call.WaitTimeout buffer) = refusal_has_none _ _ _ _
+answer_has_no_float (answer.Refused call.OutOfMemory buffer) = refusal_has_none _ _ _ _
+answer_has_no_float answer.NoDuplicator = refusal_has_none _ _ _ _

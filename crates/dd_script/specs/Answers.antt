@@ -1,0 +1,157 @@
+-- Answers as JSON trees: a member for each part, the keys in the order of their bytes.
+use Rattle.std.specs.Prelude.{ℕ, ℤ, true, List, map, codes, Option, Some, None, option_map, drop}
+use Rattle.std.specs.List.{flat_map}
+use Rattle.std.specs.Int.{w32, to_be_bytes}
+use Rattle.hex.specs.Hex.{encode_lower}
+use Rattle.serde_json.specs.Data.{Data, null, boolean, number, string, array, object, unsigned, item, no_items, Members, member, no_members, put}
+use Rattle.serde_json.specs.Find.{of_integer}
+use Rattle.serde_json.specs.View.{items_of}
+use Rattle.dd_geom.specs.declared.rect.Point.{Point}
+use Rattle.dd_geom.specs.declared.rect.Rect.{Rect}
+use Rattle.dd_geom.specs.declared.rect.Move.{Move}
+use Rattle.dd_log.specs.declared.answers.FrameInfo.{FrameInfo}
+use Rattle.dd_log.specs.declared.answers.Answer.{Answer}
+use Rattle.dd_log.specs.declared.answers.Answer.TheVariants as answer
+use Rattle.dd_log.specs.declared.answers.LogRefusal.{LogRefusal}
+use Rattle.dd_log.specs.declared.answers.LogRefusal.TheVariants as drawing
+use Rattle.dd_log.specs.declared.answers.OpenRefusal.{OpenRefusal}
+use Rattle.dd_log.specs.declared.answers.OpenRefusal.TheVariants as opening
+use Rattle.dd_log.specs.declared.answers.DupRefusal.{DupRefusal}
+use Rattle.dd_log.specs.declared.answers.DupRefusal.TheVariants as call
+
+-- a count, and a coordinate of either sign
+abbrev pub count : ℕ → Data
+count n = number (unsigned n)
+
+abbrev pub coordinate : ℤ → Data
+coordinate z = number (of_integer z)
+
+-- a list, each of its parts as f says
+abbrev pub array_of : {T : Type 0} → (T → Data) → List T → Data
+array_of f xs = array (items_of (map f xs))
+
+-- ---- frames
+
+unfoldable pub point_tree : Point → Data
+point_tree p = array (item (coordinate p.x) (item (coordinate p.y) no_items))
+
+-- a rectangle as its left, top, right and bottom sides
+unfoldable pub rect_tree : Rect → Data
+rect_tree r = array (item (coordinate r.left) (item (coordinate r.top) (item (coordinate r.right) (item (coordinate r.bottom) no_items))))
+
+-- a move as its source point, then its destination's sides
+unfoldable pub move_tree : Move → Data
+move_tree m =
+    array
+    (item (coordinate m.source.x) (item (coordinate m.source.y)
+    (item (coordinate m.dest.left) (item (coordinate m.dest.top) (item (coordinate m.dest.right) (item (coordinate m.dest.bottom) no_items))))))
+
+-- what is told of a frame
+unfoldable pub info_tree : FrameInfo → Data
+info_tree i =
+    object
+    (member (codes "accumulated") (count i.accumulated)
+    (member (codes "coalesced") (boolean i.coalesced)
+    (member (codes "meta") (count i.meta_size)
+    (member (codes "mouse") (count i.last_mouse)
+    (member (codes "pointer") (point_tree i.pointer.position)
+    (member (codes "present") (count i.last_present)
+    (member (codes "protected") (boolean i.protected)
+    (member (codes "shape") (count i.shape_size)
+    (member (codes "visible") (boolean i.pointer.visible)
+    no_members)))))))))
+
+unfoldable pub frame_tree : FrameInfo → List Move → List Rect → Data
+frame_tree info moves dirt =
+    object
+    (member (codes "dirty") (array_of rect_tree dirt)
+    (member (codes "frame") (info_tree info)
+    (member (codes "moves") (array_of move_tree moves)
+    no_members)))
+
+-- ---- surfaces
+
+-- a colour's red, green and blue: all its bytes but the highest, from the high one
+abbrev pub colour_bytes : ℕ → List ℕ
+colour_bytes c = drop 1 (to_be_bytes w32 c)
+
+-- the six digits of each colour of a row, from the left
+unfoldable pub row_digits : List ℕ → List ℕ
+row_digits row = encode_lower (flat_map colour_bytes row)
+
+abbrev pub row_tree : List ℕ → Data
+row_tree row = string (row_digits row)
+
+-- the rows from the top, or null where no frame is held
+abbrev pub rows_tree : Option (List (List ℕ)) → Data
+rows_tree None = null
+rows_tree (Some rows) = array_of row_tree rows
+
+unfoldable pub surface_tree : Option (List (List ℕ)) → Data
+surface_tree rows = object (member (codes "surface") (rows_tree rows) no_members)
+
+-- ---- refusals
+
+-- the codes, as eight hexadecimal digits: DXGI_ERROR_INVALID_CALL, DXGI_ERROR_WAIT_TIMEOUT,
+-- DXGI_ERROR_NOT_CURRENTLY_AVAILABLE and E_INVALIDARG
+abbrev pub invalid_call : List ℕ
+invalid_call = codes "887a0001"
+
+abbrev pub wait_timeout : List ℕ
+wait_timeout = codes "887a0027"
+
+abbrev pub not_available : List ℕ
+not_available = codes "887a0022"
+
+abbrev pub invalid_argument : List ℕ
+invalid_argument = codes "80070057"
+
+-- the members, with one more in front where there is a part
+abbrev pub part : List ℕ → Option Data → Members → Members
+part key None ms = ms
+part key (Some d) ms = member key d ms
+
+-- the members, with one more where there is a part
+abbrev pub put_part : List ℕ → Option Data → Members → Members
+put_part key None ms = ms
+put_part key (Some d) ms = put key d ms
+
+-- a refusal's name, and of the other parts those that it has
+unfoldable pub refusal_tree : Option (List ℕ) → Option (List ℕ) → Option ℕ → List ℕ → Data
+refusal_tree buffer code op name =
+    object
+    (part (codes "buffer") (option_map (λ bytes. string (encode_lower bytes)) buffer)
+    (part (codes "code") (option_map string code)
+    (part (codes "op") (option_map count op)
+    (member (codes "refused") (string name)
+    no_members))))
+
+-- a refused drawing
+unfoldable pub log_refusal_tree : LogRefusal → Data
+log_refusal_tree drawing.Full = refusal_tree None None None (codes "Full")
+log_refusal_tree (drawing.BadRect op) = refusal_tree None (Some invalid_argument) (Some op) (codes "BadRect")
+
+-- a refused opening
+unfoldable pub open_refusal_tree : OpenRefusal → Data
+open_refusal_tree opening.AlreadyDuplicating = refusal_tree None (Some invalid_argument) None (codes "AlreadyDuplicating")
+open_refusal_tree opening.NotAvailable = refusal_tree None (Some not_available) None (codes "NotAvailable")
+open_refusal_tree opening.Full = refusal_tree None None None (codes "Full")
+
+-- a refused call, with the whole buffer that it was given, if any
+unfoldable pub dup_refusal_tree : DupRefusal → Option (List ℕ) → Data
+dup_refusal_tree call.InvalidCall buffer = refusal_tree buffer (Some invalid_call) None (codes "InvalidCall")
+dup_refusal_tree call.WaitTimeout buffer = refusal_tree buffer (Some wait_timeout) None (codes "WaitTimeout")
+dup_refusal_tree call.OutOfMemory buffer = refusal_tree buffer None None (codes "OutOfMemory")
+
+-- ---- answers
+
+unfoldable pub answer_tree : Answer → Data
+answer_tree (answer.Entered entry) = object (member (codes "entry") (count entry) no_members)
+answer_tree (answer.NotDrawn refusal) = log_refusal_tree refusal
+answer_tree (answer.Opened entry slot) = object (member (codes "entry") (count entry) (member (codes "slot") (count slot) no_members))
+answer_tree (answer.NotOpened refusal) = open_refusal_tree refusal
+answer_tree (answer.Frame info moves dirt) = frame_tree info moves dirt
+answer_tree answer.Released = object (member (codes "released") (boolean true) no_members)
+answer_tree (answer.Surface rows) = surface_tree rows
+answer_tree (answer.Refused refusal buffer) = dup_refusal_tree refusal buffer
+answer_tree answer.NoDuplicator = refusal_tree None None None (codes "NoDuplicator")
