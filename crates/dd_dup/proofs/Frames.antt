@@ -14,6 +14,7 @@ use Rattle.dd_modes.specs.Modes.{first_mode}
 use Rattle.dd_log.specs.declared.events.Spec.{Spec}
 use Rattle.dd_log.specs.declared.answers.DupRefusal.TheVariants.{InvalidCall, WaitTimeout}
 use Rattle.dd_geom.specs.declared.rect.Rect.{Rect}
+use Rattle.dd_geom.specs.declared.rect.Move.{Move}
 use Rattle.dd_geom.specs.declared.rect.TheConstants.{MAX_PIXELS}
 use Rattle.dd_geom.specs.Rect.{IsSize}
 use Rattle.dd_geom.specs.Grid.{Grid}
@@ -33,8 +34,8 @@ use Rattle.dd_dup.specs.Stands.{Stands, opens_at, is_opening}
 use Rattle.dd_dup.proofs.Entries.{width-accumulated, height-accumulated, area-accumulated, frames-accumulated}
 use Rattle.dd_dup.proofs.Advance.{width-shown, height-shown}
 
-made : ℕ → ℕ → ℕ → List Rect → Frame
-made last count meta dirt = record {
+abbrev pub made : ℕ → ℕ → ℕ → List Move → List Rect → Frame
+made last count meta moves dirt = record {
   info = record {
     last_present = last;
     last_mouse = 0;
@@ -45,19 +46,20 @@ made last count meta dirt = record {
     meta_size = meta;
     shape_size = 0;
   };
-  moves = [];
+  moves = moves;
   dirt = dirt;
 }
 
 -- the frame that is made of its parts
-pub frame_made : (w h place last count meta : ℕ) (dirt : List Rect) (es : List Entry) → last ≡ last_present 0 place es → count ≡ length (presents es) → meta ≡ 16 * length dirt → dirt ≡ dirt_of w h es
-    → made last count meta dirt ≡ frame_of w h place es
+pub frame_made : (w h place last count meta : ℕ) (moves : List Move) (dirt : List Rect) (es : List Entry) → last ≡ last_present 0 place es → count ≡ length (presents es) → meta ≡ 16 * length dirt → moves ≡ [] → dirt ≡ dirt_of w h es
+    → made last count meta moves dirt ≡ frame_of w h place es
 unfolding frame_of
-frame_made w h place last count meta dirt es last_is count_is meta_is dirt_is =
-    ap (λ n. made n count meta dirt) last_is
-    ∙ ap (λ n. made (last_present 0 place es) n meta dirt) count_is
-    ∙ ap (λ n. made (last_present 0 place es) (length (presents es)) n dirt) (meta_is ∙ ap (λ d. 16 * length d) dirt_is)
-    ∙ ap (made (last_present 0 place es) (length (presents es)) (16 * length (dirt_of w h es))) dirt_is
+frame_made w h place last count meta moves dirt es last_is count_is meta_is none dirt_is =
+    ap (λ n. made n count meta moves dirt) last_is
+    ∙ ap (λ n. made (last_present 0 place es) n meta moves dirt) count_is
+    ∙ ap (λ n. made (last_present 0 place es) (length (presents es)) n moves dirt) (meta_is ∙ ap (λ d. 16 * length d) dirt_is)
+    ∙ ap (λ ms. made (last_present 0 place es) (length (presents es)) (16 * length (dirt_of w h es)) ms dirt) none
+    ∙ ap (made (last_present 0 place es) (length (presents es)) (16 * length (dirt_of w h es)) []) dirt_is
 
 pub dirt_made : (w h : ℕ) (es : List Entry) (acc : Interval) (dirt : List Rect) → dirt ≡ runs acc.area → acc ≡ accumulated w h es → dirt ≡ dirt_of w h es
 unfolding dirt_of
@@ -67,9 +69,10 @@ pub few_made : (w h : ℕ) (es : List Entry) (acc : Interval) (dirt : List Rect)
 few_made w h es acc dirt size dirt_is acc_is =
     let wide : acc.area.width ≡ w = ap (λ (i : Interval). i.area.width) acc_is ∙ width-accumulated w h es in
     let high : acc.area.height ≡ h = ap (λ (i : Interval). i.area.height) acc_is ∙ height-accumulated w h es in
-    let few : length (runs acc.area) ≤ h * w = rw (wide, high) at (length-runs acc.area) in
+    let few : length (runs acc.area) ≤ acc.area.height * acc.area.width = length-runs acc.area in
+    let product : acc.area.height * acc.area.width ≡ h * w = ap (λ n. n * acc.area.width) high ∙ ap (λ n. h * n) wide in
     let pixels : w * h ≤ MAX_PIXELS = size.pixels in
-    omega (arith, few, pixels, mul_comm w h, ap length dirt_is)
+    omega (arith, few, product, pixels, mul_comm w h, ap length dirt_is)
 
 pub frame-dirt : (w h place : ℕ) (es : List Entry) → (frame_of w h place es).dirt ≡ dirt_of w h es
 unfolding frame_of

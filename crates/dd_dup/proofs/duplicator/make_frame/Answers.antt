@@ -12,8 +12,11 @@ metadata_of-meta_size-requires c =
 
 pub returns : goal.returns
 returns c =
-    frame_made c.args.mode.width c.args.mode.height c.args.place c.number_of_last-last_present.result c.frames-accumulated.result c.metadata_of-meta_size.result c.into_dirt-dirt.result c.args.news.now
+    let w = c.args.mode.width in
+    let h = c.args.mode.height in
+    frame_made w h c.args.place c.number_of_last-last_present.result c.frames-accumulated.result c.metadata_of-meta_size.result c.from_vec-moves.result c.into_dirt-dirt.result c.args.news.now
     c.number_of_last-last_present.ensures
-    (c.frames-accumulated.ensures ∙ ap (λ (i : Interval). i.frames) c.in_ok-acc.ensures ∙ frames-accumulated c.args.mode.width c.args.mode.height c.args.news.now)
+    (c.frames-accumulated.ensures ∙ ap (λ (i : Interval). i.frames) c.in_ok-acc.ensures ∙ frames-accumulated w h c.args.news.now)
     (c.metadata_of-meta_size.ensures ∙ ap (λ (xs : List Rect). 16 * length xs) c.as_slice.ensures)
-    (dirt_made c.args.mode.width c.args.mode.height c.args.news.now c.in_ok-acc.acc c.into_dirt-dirt.result c.into_dirt-dirt.ensures c.in_ok-acc.ensures)
+    (c.from_vec-moves.ensures ∙ c.new.ensures.items)
+    (dirt_made w h c.args.news.now c.in_ok-acc.acc c.into_dirt-dirt.result c.into_dirt-dirt.ensures c.in_ok-acc.ensures)
