@@ -1,3 +1,9 @@
-pub mod Examples
+pub mod Trees
+pub mod Each
+pub mod Runnable
+pub mod Causes
+pub mod OnLiterals
+pub mod ScriptExamples
 pub mod NoFloat
 pub mod Parts
+pub mod AnswerExamples

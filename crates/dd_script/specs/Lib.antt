@@ -1,2 +1,4 @@
+pub mod Script
+pub mod Reading
 pub mod Answers
 pub mod Texts

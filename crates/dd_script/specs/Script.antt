@@ -1,0 +1,242 @@
+-- Which JSON trees are scripts, and of which script: one definition for each form, in the order of its parts.
+use Rattle.std.specs.Prelude.{ℕ, zero, suc, ◌^◌, ◌≤◌, ◌<◌, ◌-◌, ℤ, pos, negsuc, int_le, nat_lt, nat_le, ◌==◌, Bool, true, false, ◌&&◌, not, if◌then◌else◌, codes, List, [], ◌∷◌, length, Option, Some, None, is_some, option_map, option_and_then}
+use Rattle.std.specs.Option.{option_map_or}
+use Rattle.std.specs.Result.{result_ok}
+use Rattle.std.specs.List.{list_all, AllByRecursion}
+use Rattle.std.specs.Int.{w32, from_be_bytes}
+use Rattle.std.specs.Str.{bytes_eq}
+use Rattle.serde_json.specs.Data.{Data, Items, no_items, item, Members, no_members, member}
+use Rattle.serde_json.specs.Find.{get, at, as_number, as_u64, as_i64, as_str, as_array, as_object}
+use Rattle.hex.specs.Hex.{decode_sized}
+use Rattle.dd_geom.specs.declared.rect.Rect.{Rect}
+use Rattle.dd_modes.specs.declared.modes.Mode.{Mode}
+use Rattle.dd_modes.specs.declared.modes.Rotation.{Rotation}
+use Rattle.dd_modes.specs.declared.modes.Rotation.TheVariants.{Unspecified, Identity, Rotate90, Rotate180, Rotate270}
+use Rattle.dd_modes.specs.Modes.{are_modes, first_mode}
+use Rattle.dd_ops.specs.declared.operations.Op.{Op}
+use Rattle.dd_ops.specs.declared.operations.Op.TheVariants.{Fill}
+use Rattle.dd_ops.specs.declared.lists.TheConstants.{MAX_OPS}
+use Rattle.dd_ops.specs.Operations.{all_fit}
+use Rattle.dd_log.specs.declared.events.Draw as draws
+use Rattle.dd_log.specs.declared.events.Draw.TheVariants.{Present}
+use Rattle.dd_station.specs.declared.steps.ClientCall.{ClientCall}
+use Rattle.dd_station.specs.declared.steps.ClientCall.TheVariants.{Duplicate, Acquire, Release, Surface}
+use Rattle.dd_station.specs.declared.steps.Step.{Step}
+use Rattle.dd_station.specs.declared.steps.Step.TheVariants.{Draw, Call}
+use Rattle.dd_station.specs.declared.steps.Script.{Script}
+use Rattle.dd_script.specs.declared.reading.limits.TheConstants.{MAX_CAPACITY, MAX_CLIENTS, MAX_PRIVILEGED}
+
+-- the second step, where the first gave a value
+infixl 10 ◌>>=◌
+abbrev pub ◌>>=◌ : {A B : Type 0} → Option A → (A → Option B) → Option B
+o >>= f = option_and_then f o
+
+-- ---- trees
+
+abbrev pub listed : Items → List Data
+listed no_items = []
+listed (item d ds) = d ∷ listed ds
+
+-- the items of a list
+abbrev pub list_of : Data → Option (List Data)
+list_of d = option_map listed (as_array d)
+
+-- a list of n items
+abbrev pub has_items : ℕ → Data → Bool
+has_items n d = option_map_or (λ ds. length ds == n) (list_of d) false
+
+abbrev pub member_count : Members → ℕ
+member_count no_members = zero
+member_count (member k d ms) = suc (member_count ms)
+
+-- an object of n keys
+abbrev pub has_keys : ℕ → Data → Bool
+has_keys n d = option_map_or (λ ms. member_count ms == n) (as_object d) false
+
+-- each item is one that f reads
+abbrev pub each : {A : Type 0} → (Data → Option A) → List Data → Option (List A)
+each f [] = Some []
+each f (d ∷ ds) = do
+  x ← f d
+  xs ← each f ds
+  Some (x ∷ xs)
+
+-- ---- numbers
+
+-- a whole number from 0 to 4294967295
+unfoldable pub u32_of : Data → Option ℕ
+u32_of d = do
+  number ← as_number d
+  n ← as_u64 number
+  if nat_lt n (2 ^ 32) then Some n else None
+
+-- a coordinate: a whole number from -2147483648 to 2147483647
+unfoldable pub i32_of : Data → Option ℤ
+i32_of d = do
+  number ← as_number d
+  z ← as_i64 number
+  if int_le (negsuc 2147483647) z && int_le z (pos 2147483647) then Some z else None
+
+-- ---- drawing
+
+-- [left, top, right, bottom]
+unfoldable pub rect_of : Data → Option Rect
+rect_of d = if has_items 4 d then (do
+  left ← at 0 d >>= i32_of
+  top ← at 1 d >>= i32_of
+  right ← at 2 d >>= i32_of
+  bottom ← at 3 d >>= i32_of
+  Some (record { left = left; top = top; right = right; bottom = bottom })) else None
+
+-- six hexadecimal digits: red, green, blue
+unfoldable pub colour_of : Data → Option ℕ
+colour_of d = do
+  text ← as_str d
+  channels ← result_ok (decode_sized text 3)
+  Some (from_be_bytes w32 (0 ∷ channels))
+
+-- {"fill":R,"colour":colour}
+unfoldable pub operation_of : Data → Option Op
+operation_of d = if has_keys 2 d then (do
+  rect ← get (codes "fill") d >>= rect_of
+  colour ← get (codes "colour") d >>= colour_of
+  Some (Fill rect colour)) else None
+
+-- 0 to 64 operations
+unfoldable pub operations_of : Data → Option (List Op)
+operations_of d = do
+  ds ← list_of d
+  if nat_le (length ds) MAX_OPS then each operation_of ds else None
+
+-- {"present":[operations]}
+unfoldable pub draw_of : Data → Option draws.Draw
+draw_of d = if has_keys 1 d then (do
+  ops ← get (codes "present") d >>= operations_of
+  Some (Present ops)) else None
+
+-- ---- steps
+
+-- in one list of steps an acquire has no timeout of its own
+unfoldable pub call_named : List ℕ → Option ClientCall
+call_named name =
+    if bytes_eq name (codes "duplicate") then Some Duplicate
+    else if bytes_eq name (codes "acquire") then Some (Acquire 0)
+    else if bytes_eq name (codes "release") then Some Release
+    else if bytes_eq name (codes "surface") then Some Surface
+    else None
+
+-- {"client":k,"call":name}
+unfoldable pub call_of : Data → Option Step
+call_of d = if has_keys 2 d then (do
+  client ← get (codes "client") d >>= u32_of
+  name ← get (codes "call") d >>= as_str
+  call ← call_named name
+  Some (Call client call)) else None
+
+-- a call where there is a client, else a drawing
+unfoldable pub step_of : Data → Option Step
+step_of d = if is_some (get (codes "client") d) then call_of d else option_map Draw (draw_of d)
+
+unfoldable pub steps_of : Data → Option (List Step)
+steps_of d = list_of d >>= each step_of
+
+-- ---- the output
+
+unfoldable pub rotation_numbered : ℕ → Option Rotation
+rotation_numbered n =
+    if n == 0 then Some Unspecified
+    else if n == 1 then Some Identity
+    else if n == 2 then Some Rotate90
+    else if n == 3 then Some Rotate180
+    else if n == 4 then Some Rotate270
+    else None
+
+-- [width, height, rotation]
+unfoldable pub mode_of : Data → Option Mode
+mode_of d = if has_items 3 d then (do
+  width ← at 0 d >>= u32_of
+  height ← at 1 d >>= u32_of
+  turn ← at 2 d >>= u32_of
+  rotation ← rotation_numbered turn
+  Some (record { width = width; height = height; rotation = rotation })) else None
+
+-- modes that an output may have
+unfoldable pub modes_of : Data → Option (List Mode)
+modes_of d = do
+  modes ← list_of d >>= each mode_of
+  if are_modes modes then Some modes else None
+
+unfoldable pub apps_of : Data → Option (List ℕ)
+apps_of d = list_of d >>= each u32_of
+
+-- ---- the script
+
+-- {"modes":modes,"capacity":capacity,"privileged":[applications],"clients":[applications],"steps":[steps]}
+unfoldable pub form_of : Data → Option Script
+form_of d = if has_keys 5 d then (do
+  modes ← get (codes "modes") d >>= modes_of
+  capacity ← get (codes "capacity") d >>= u32_of
+  privileged ← get (codes "privileged") d >>= apps_of
+  clients ← get (codes "clients") d >>= apps_of
+  steps ← get (codes "steps") d >>= steps_of
+  Some (record {
+    spec = record { modes = modes; capacity = capacity; privileged = privileged };
+    clients = clients;
+    steps = steps;
+  })) else None
+
+-- a call is of one of n clients, numbered from 1
+abbrev pub has_client : ℕ → Step → Bool
+has_client n (Draw drawing) = true
+has_client n (Call client call) = nat_le 1 client && nat_le client n
+
+-- the ranges of the capacity, of the counts and of the clients' numbers
+unfoldable pub keeps_limits : Script → Bool
+keeps_limits s =
+    nat_le 1 s.spec.capacity && nat_le s.spec.capacity MAX_CAPACITY && nat_le (length s.spec.privileged) MAX_PRIVILEGED
+    && nat_le 1 (length s.clients) && nat_le (length s.clients) MAX_CLIENTS
+    && list_all (has_client (length s.clients)) s.steps
+
+abbrev pub is_duplicate : Step → Bool
+is_duplicate (Call client Duplicate) = true
+is_duplicate (Call client (Acquire timeout)) = false
+is_duplicate (Call client Release) = false
+is_duplicate (Call client Surface) = false
+is_duplicate (Draw drawing) = false
+
+-- no step, or the first opens a duplicator and no other does
+abbrev pub opens_first : List Step → Bool
+opens_first [] = true
+opens_first (s ∷ ss) = is_duplicate s && list_all (λ t. not (is_duplicate t)) ss
+
+-- a drawing lies inside the mode
+abbrev pub lies_inside : Mode → Step → Bool
+lies_inside m (Draw (Present ops)) = all_fit m.width m.height ops
+lies_inside m (Call client call) = true
+
+-- one mode, one client that opens before all else, drawings that fit, and room for an entry of each step
+unfoldable pub has_one_duplicator : Script → Bool
+has_one_duplicator s =
+    length s.spec.modes == 1 && length s.spec.privileged == 0 && length s.clients == 1
+    && nat_lt (length s.steps) s.spec.capacity && opens_first s.steps
+    && list_all (lies_inside (first_mode s.spec.modes)) s.steps
+
+-- the script that a tree is
+unfoldable pub script_of : Data → Option Script
+script_of d = do
+  s ← form_of d
+  if keeps_limits s && has_one_duplicator s then Some s else None
+
+-- ---- what holds of each script
+
+abbrev pub IsOfClient : ℕ → Step → Type 0
+IsOfClient n (Draw drawing) = Unit {0}
+IsOfClient n (Call client call) = (1 ≤ client) × (client ≤ n)
+
+pub record IsRunnable (s : Script) : Type 0 where
+  pub capacity_low : 1 ≤ s.spec.capacity
+  pub capacity_high : s.spec.capacity ≤ MAX_CAPACITY
+  pub some : 1 ≤ length s.clients
+  pub few : length s.clients ≤ MAX_CLIENTS
+  pub calls : AllByRecursion (IsOfClient (length s.clients)) s.steps
+  pub count : length s.steps < 2 ^ 32 - 1

@@ -1,0 +1,94 @@
+//! Scripts from bytes.
+
+mod calls;
+mod drawing;
+mod limits;
+mod output;
+#[cfg(test)]
+mod tests;
+mod tree;
+
+ghost use Rattle.std.specs.Prelude.{◌≡◌, ℕ, List, IfOk};
+ghost use Rattle.serde_json.specs.Data.{Data};
+ghost use Rattle.serde_json.specs.View.{view};
+ghost use Rattle.dd_script.specs.Reading.{IsJson, Gives, ReadsTree, Reads};
+ghost use Rattle.dd_script.specs.Script.{form_of, script_of, IsRunnable};
+
+use crate::fault::ScriptFault;
+use crate::reading::calls::steps_of;
+use crate::reading::limits::{has_one_duplicator, keeps_limits};
+use crate::reading::output::{apps_of, modes_of};
+use crate::reading::tree::{has_keys, member, u32_of};
+use dd_log::Spec;
+use dd_station::Script;
+pub use limits::{MAX_CAPACITY, MAX_CLIENTS, MAX_PRIVILEGED};
+use serde_json::Value;
+use std::alloc::Global;
+
+/// The tree of a JSON text.
+fn tree_of(alloc: Global, bytes: &[u8]) -> Result<Value, ScriptFault>
+    ensures { ReadsTree result bytes.now }
+{
+    match Value::from_slice(alloc, bytes) {
+        Ok(value) => Ok(value),
+        Err(e) if e.is_memory() => Err(ScriptFault::OutOfMemory),
+        Err(_) => Err(ScriptFault::NotJson),
+    }
+}
+
+/// `{"modes":modes,"capacity":capacity,"privileged":[applications],"clients":[applications],
+/// "steps":[steps]}`.
+#[tactic(auto, unfolding(crate::specs::Script::form_of))]
+fn form_of(alloc: Global, value: &Value) -> Result<Script, ScriptFault>
+    ensures { Gives (λ s. s) result (form_of (view value.now)) }
+{
+    if !has_keys(value, 5) {
+        return Err(ScriptFault::NotScript);
+    }
+    let modes = modes_of(alloc, member(value, "modes")?)?;
+    let capacity = u32_of(member(value, "capacity")?).ok_or(ScriptFault::NotScript)?;
+    let privileged = apps_of(alloc, member(value, "privileged")?)?;
+    let clients = apps_of(alloc, member(value, "clients")?)?;
+    let steps = steps_of(alloc, member(value, "steps")?)?;
+    let spec = Spec {
+        modes,
+        capacity,
+        privileged,
+    };
+    Ok(Script {
+        spec,
+        clients,
+        steps,
+    })
+}
+
+/// The script that a tree is.
+#[tactic(auto, unfolding(crate::specs::Script::script_of))]
+fn script_of(alloc: Global, value: &Value) -> Result<Script, ScriptFault>
+    ensures { Gives (λ s. s) result (script_of (view value.now)) }
+{
+    let script = form_of(alloc, value)?;
+    if keeps_limits(&script) && has_one_duplicator(&script) {
+        Ok(script)
+    } else {
+        Err(ScriptFault::NotScript)
+    }
+}
+
+/// The script that the bytes are, as a JSON text.
+///
+/// NotJson comes exactly where the bytes are no JSON text, NotScript exactly where its tree is no
+/// script.
+#[tactic(auto, using(crate::proofs::Runnable::script_runs))]
+pub fn read_steps(alloc: Global, bytes: &[u8]) -> Result<Script, ScriptFault>
+    ensures reads { Reads result bytes.now }
+    ensures whole { IfOk result (λ s. IsRunnable s) }
+{
+    let tree = tree_of(alloc, bytes)?;
+    script_of(alloc, &tree)
+}
+
+/// Bytes are the text of at most one tree.
+pub fn one_tree()
+    ensures { (bytes : List ℕ) (d e : Data) → IsJson bytes d → IsJson bytes e → d ≡ e }
+{}

@@ -1,0 +1,74 @@
+//! Calls of clients, and the list of steps.
+
+ghost use Rattle.std.specs.Prelude.{◌≡◌, map};
+ghost use Rattle.serde_json.specs.View.{view};
+ghost use Rattle.dd_script.specs.Reading.{Gives};
+ghost use Rattle.dd_script.specs.Script.{each, call_named, call_of, step_of, steps_of};
+
+use crate::fault::ScriptFault;
+use crate::reading::drawing::draw_of;
+use crate::reading::tree::{has_keys, list_of, u32_of};
+use dd_station::{ClientCall, Step, Steps};
+use serde_json::Value;
+use std::alloc::Global;
+
+/// A call by its name. In one list of steps an acquire has no timeout of its own.
+#[tactic(auto, unfolding(crate::specs::Script::call_named))]
+fn call_named(name: &str) -> Option<ClientCall>
+    ensures { result ≡ call_named name.now }
+{
+    match name {
+        "duplicate" => Some(ClientCall::Duplicate),
+        "acquire" => Some(ClientCall::Acquire { timeout: 0 }),
+        "release" => Some(ClientCall::Release),
+        "surface" => Some(ClientCall::Surface),
+        _ => None,
+    }
+}
+
+/// `{"client":k,"call":name}`.
+#[tactic(auto, unfolding(crate::specs::Script::call_of))]
+fn call_of(value: &Value) -> Option<Step>
+    ensures { result ≡ call_of (view value.now) }
+{
+    if !has_keys(value, 2) {
+        return None;
+    }
+    let client = u32_of(value.get("client")?)?;
+    let call = call_named(value.get("call")?.as_str()?)?;
+    Some(Step::Call { client, call })
+}
+
+/// A call where there is a client, else a drawing.
+#[tactic(auto, unfolding(crate::specs::Script::step_of))]
+fn step_of(alloc: Global, value: &Value) -> Result<Step, ScriptFault>
+    ensures { Gives (λ s. s) result (step_of (view value.now)) }
+{
+    if value.get("client").is_some() {
+        call_of(value).ok_or(ScriptFault::NotScript)
+    } else {
+        Ok(Step::Draw(draw_of(alloc, value)?))
+    }
+}
+
+/// The steps of the values, in their order.
+#[tactic(auto, using(crate::proofs::Each::one_by_one))]
+fn each_step(alloc: Global, values: &[Value]) -> Result<Vec<Step>, ScriptFault>
+    ensures { Gives (λ v. v.items) result (each step_of (map view values.now)) }
+{
+    let mut steps = Vec::new(alloc);
+    for value in values {
+        let step = step_of(alloc, value)?;
+        steps.push(step)?;
+    }
+    Ok(steps)
+}
+
+/// A list of steps.
+#[tactic(auto, unfolding(crate::specs::Script::steps_of))]
+pub fn steps_of(alloc: Global, value: &Value) -> Result<Steps, ScriptFault>
+    ensures { Gives (λ s. s) result (steps_of (view value.now)) }
+{
+    let values = list_of(value).ok_or(ScriptFault::NotScript)?;
+    Ok(Steps::from_vec(each_step(alloc, values)?))
+}

@@ -1,0 +1,91 @@
+//! What an output is begun with: its modes and its applications.
+
+ghost use Rattle.std.specs.Prelude.{◌≡◌, map};
+ghost use Rattle.serde_json.specs.View.{view};
+ghost use Rattle.dd_script.specs.Reading.{Gives};
+ghost use Rattle.dd_script.specs.Script.{each, u32_of, rotation_numbered, mode_of, modes_of, apps_of};
+
+use crate::fault::ScriptFault;
+use crate::reading::tree::{has_items, list_of, u32_of};
+use dd_log::Apps;
+use dd_modes::{Mode, Modes, Rotation};
+use serde_json::Value;
+use std::alloc::Global;
+
+/// A rotation by its number.
+#[tactic(auto, unfolding(crate::specs::Script::rotation_numbered))]
+fn rotation_numbered(number: u32) -> Option<Rotation>
+    ensures { result ≡ rotation_numbered number }
+{
+    match number {
+        0 => Some(Rotation::Unspecified),
+        1 => Some(Rotation::Identity),
+        2 => Some(Rotation::Rotate90),
+        3 => Some(Rotation::Rotate180),
+        4 => Some(Rotation::Rotate270),
+        _ => None,
+    }
+}
+
+/// `[width, height, rotation]`.
+#[tactic(auto, unfolding(crate::specs::Script::mode_of))]
+fn mode_of(value: &Value) -> Option<Mode>
+    ensures { result ≡ mode_of (view value.now) }
+{
+    if !has_items(value, 3) {
+        return None;
+    }
+    let width = u32_of(value.get(0usize)?)?;
+    let height = u32_of(value.get(1usize)?)?;
+    let rotation = rotation_numbered(u32_of(value.get(2usize)?)?)?;
+    Some(Mode {
+        width,
+        height,
+        rotation,
+    })
+}
+
+/// The modes of the values, in their order.
+#[tactic(auto, using(crate::proofs::Each::one_by_one))]
+fn each_mode(alloc: Global, values: &[Value]) -> Result<Vec<Mode>, ScriptFault>
+    ensures { Gives (λ v. v.items) result (each mode_of (map view values.now)) }
+{
+    let mut modes = Vec::new(alloc);
+    for value in values {
+        let mode = mode_of(value).ok_or(ScriptFault::NotScript)?;
+        modes.push(mode)?;
+    }
+    Ok(modes)
+}
+
+/// Modes that an output may have.
+#[tactic(auto, unfolding(crate::specs::Script::modes_of))]
+pub fn modes_of(alloc: Global, value: &Value) -> Result<Modes, ScriptFault>
+    ensures { Gives (λ modes. modes) result (modes_of (view value.now)) }
+{
+    let values = list_of(value).ok_or(ScriptFault::NotScript)?;
+    let modes = each_mode(alloc, values)?;
+    Modes::from_vec(modes).ok_or(ScriptFault::NotScript)
+}
+
+/// The numbers of the values, in their order.
+#[tactic(auto, using(crate::proofs::Each::one_by_one))]
+fn each_number(alloc: Global, values: &[Value]) -> Result<Vec<u32>, ScriptFault>
+    ensures { Gives (λ v. v.items) result (each u32_of (map view values.now)) }
+{
+    let mut numbers = Vec::new(alloc);
+    for value in values {
+        let number = u32_of(value).ok_or(ScriptFault::NotScript)?;
+        numbers.push(number)?;
+    }
+    Ok(numbers)
+}
+
+/// A list of applications.
+#[tactic(auto, unfolding(crate::specs::Script::apps_of))]
+pub fn apps_of(alloc: Global, value: &Value) -> Result<Apps, ScriptFault>
+    ensures { Gives (λ apps. apps) result (apps_of (view value.now)) }
+{
+    let values = list_of(value).ok_or(ScriptFault::NotScript)?;
+    Ok(Apps::from_vec(each_number(alloc, values)?))
+}
