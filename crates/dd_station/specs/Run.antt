@@ -1,5 +1,5 @@
 -- The run of a list of steps: a fold from the empty list and no memories.
-use Rattle.std.specs.Prelude.{ℕ, ◌+◌, ◌-◌, ◌≤◌, List, [], ◌∷◌, length, map, replicate, slice_get, slice_set, slice_index, Option, Some, None, option_map, unwrap_or, Result, Ok, Err}
+use Rattle.std.specs.Prelude.{ℕ, ◌+◌, ◌-◌, ◌≤◌, List, [], ◌∷◌, length, map, replicate, slice_index_or, slice_set, slice_index, Option, Some, None, Result, Ok, Err}
 use Rattle.dd_log.specs.declared.events.Spec.{Spec}
 use Rattle.dd_log.specs.declared.events.Entry.{Entry}
 use Rattle.dd_log.specs.declared.events.Event.{Event}
@@ -73,7 +73,7 @@ abbrev pub app_of : State → ℕ → ℕ
 app_of s k = slice_index s.clients (k - 1)
 
 abbrev pub memory_of : State → ℕ → Option Memory
-memory_of s k = unwrap_or (slice_get s.memories (k - 1)) None
+memory_of s k = slice_index_or s.memories (k - 1) None
 
 -- an opening is the next entry, and the client's memory is fresh; or it is refused
 abbrev pub opened_or : Result ℕ OpenRefusal → State → ℕ → Answer × State

@@ -1,5 +1,5 @@
 -- A station's value and what it keeps.
-use Rattle.std.specs.Prelude.{◌≡◌, ℕ, ◌≤◌, List, length, map, Option, Some, None, option_map, slice_get, unwrap_or}
+use Rattle.std.specs.Prelude.{◌≡◌, ℕ, ◌≤◌, List, length, map, Option, Some, None, option_map, slice_index_or}
 use Rattle.dd_log.specs.History.{History, last_step}
 use Rattle.dd_dup.specs.Reply.{Memory}
 use Rattle.dd_dup.specs.Duplicator.{Duplicator}
@@ -25,5 +25,5 @@ MayStand (Some d) h = Stands d h
 pub record IsKept (h : History) (clients : List ℕ) (dups : List (Option Duplicator)) (steps : ℕ) : Type 0 where
   pub few : length clients ≤ MAX_CLIENTS
   pub places : length dups ≡ length clients
-  pub stand : (k : ℕ) → MayStand (unwrap_or (slice_get dups k) None) h
+  pub stand : (k : ℕ) → MayStand (slice_index_or dups k None) h
   pub past : (actor : ℕ) → last_step h.entries actor ≤ steps
