@@ -10,7 +10,8 @@ use Rattle.dd_station.specs.declared.steps.Step.{Step}
 use Rattle.dd_station.specs.declared.steps.Step.TheVariants.{Draw, Call}
 use Rattle.dd_station.specs.declared.steps.Script.{Script}
 use Rattle.dd_script.specs.declared.reading.limits.TheConstants.{MAX_CAPACITY, MAX_CLIENTS, MAX_PRIVILEGED}
-use Rattle.dd_script.specs.Script.{form_of, script_of, has_client, keeps_limits, opens_first, lies_inside, has_one_duplicator, IsOfClient, IsRunnable}
+use Rattle.dd_script.specs.Script.{form_of, script_of, has_client, keeps_limits, opens_first, lies_inside, has_one_duplicator, IsRunnable}
+use Rattle.dd_station.specs.Run.{IsOfClient}
 
 of_client : (n : ℕ) (s : Step) → has_client n s ≡ true → IsOfClient n s
 of_client n (Draw drawing) h = tt

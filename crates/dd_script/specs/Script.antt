@@ -24,6 +24,7 @@ use Rattle.dd_station.specs.declared.steps.ClientCall.TheVariants.{Duplicate, Ac
 use Rattle.dd_station.specs.declared.steps.Step.{Step}
 use Rattle.dd_station.specs.declared.steps.Step.TheVariants.{Draw, Call}
 use Rattle.dd_station.specs.declared.steps.Script.{Script}
+use Rattle.dd_station.specs.Run.{IsOfClient}
 use Rattle.dd_script.specs.declared.reading.limits.TheConstants.{MAX_CAPACITY, MAX_CLIENTS, MAX_PRIVILEGED}
 
 -- the second step, where the first gave a value
@@ -228,10 +229,6 @@ script_of d = do
   if keeps_limits s && has_one_duplicator s then Some s else None
 
 -- ---- what holds of each script
-
-abbrev pub IsOfClient : ℕ → Step → Type 0
-IsOfClient n (Draw drawing) = Unit {0}
-IsOfClient n (Call client call) = (1 ≤ client) × (client ≤ n)
 
 pub record IsRunnable (s : Script) : Type 0 where
   pub capacity_low : 1 ≤ s.spec.capacity

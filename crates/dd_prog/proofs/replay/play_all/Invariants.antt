@@ -1,0 +1,10 @@
+use Rattle.std.proofs.Common.{◌≡◌, ℕ, ◌+◌, ◌≤◌, List, ◌++◌, drop, length}
+use Rattle.std.specs.Io.KnownBytes.{Appends}
+use Rattle.dd_station.specs.Run.{State, answers}
+use Rattle.dd_script.specs.Texts.{text}
+use Rattle.dd_prog.proofs.Playing.{SoFar}
+use Rattle.dd_prog.proofs.replay.play_all.Given as goal
+
+abbrev pub invariant-loop-step : goal.invariant-loop-step
+invariant-loop-step g l =
+    SoFar (g.K.Sink.held l.fn.sink) (g.K.Sink.held l.sink) (g.K.Sink.faults l.fn.sink) (g.K.Sink.faults l.sink) l.fn.station l.station l.steps l.step-index
