@@ -109,8 +109,9 @@ impl Dup {
         })
     }
 
-    /// The frame that an acquire gives. It changes nothing.
-    fn next_frame(&self, log: &Log) -> Result<Frame, DupRefusal>
+    /// The frame that an acquire gives, or why none is given. It changes nothing, and takes all
+    /// memory that an acquire takes; `hold` does the rest.
+    pub fn next_frame(&self, log: &Log) -> Result<Frame, DupRefusal>
         requires { Stands self.now log.now }
         ensures { Gives result (acquire_reply self.now.memory log.now) }
     {
@@ -125,11 +126,14 @@ impl Dup {
         Ok(make_frame(self.alloc, mode, self.mark, news)?)
     }
 
-    /// Holds the frame, with the picture and the surface brought forward. It takes no memory.
-    fn hold(&mut self, log: &Log, next: Frame)
+    /// Holds the frame that `next_frame` gave, with the picture and the surface brought forward. It
+    /// takes no memory.
+    pub fn hold(&mut self, log: &Log, next: Frame)
         requires stands { Stands self.old log.now }
         requires next { next ≡ frame log.now self.old.memory.mark }
         ensures held { self.new ≡ duplicator self.old.memory.opened (length log.now.entries) (Some next) (view log.now) (picture log.now) self.old.mode }
+        ensures stands_still { Stands self.new log.now }
+        ensures surface { self.new.surface ≡ view log.now }
         ensures rebuilt { Rebuilds self.old.surface (Some next) self.new.surface }
     {
         let news = log.after(self.mark);

@@ -1,6 +1,10 @@
 //! One list of steps, of drawing actors and of clients, and its run.
 #![tactic(auto)]
 
+mod calls;
+mod opening;
+mod station;
 mod steps;
 
-pub use steps::{ClientCall, Script, Step, Steps};
+pub use station::Station;
+pub use steps::{ClientCall, MAX_CLIENTS, Script, Step, Steps};

@@ -5,6 +5,9 @@ ghost use Rattle.std.specs.Prelude.{◌≡◌};
 use dd_log::{Apps, Draw, Spec};
 use std::marker::Model;
 
+/// The most clients of an output.
+pub const MAX_CLIENTS: usize = 16;
+
 /// What a client asks of its duplicator.
 #[derive(Clone, Copy, Debug, PartialEq, Eq)]
 pub enum ClientCall {

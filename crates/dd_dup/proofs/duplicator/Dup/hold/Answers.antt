@@ -13,7 +13,7 @@ use Rattle.dd_dup.specs.declared.frame.Frame.{Frame}
 use Rattle.dd_dup.specs.Reply.{frame, dirt_of, news}
 use Rattle.dd_dup.specs.Duplicator.{Duplicator, duplicator}
 use Rattle.dd_dup.specs.Stands.{Stands}
-use Rattle.dd_dup.proofs.Frames.{width-picture, height-picture, picture_forward, frame-dirt, frame-moves, same_parts}
+use Rattle.dd_dup.proofs.Frames.{width-picture, height-picture, picture_forward, frame-dirt, frame-moves, same_parts, stands_held}
 use Rattle.dd_dup.proofs.duplicator.Dup.hold.Goals as goal
 
 pub advance-requires-clause-fit : goal.advance-requires-clause-fit
@@ -47,8 +47,9 @@ advance-requires-clause-dirt c =
     ∙ ap (λ n. dirt_of n (mode_of h).height c.after-news.result.now) (sym wide)
     ∙ ap (λ n. dirt_of c.self.inside.picture.width n c.after-news.result.now) (sym high)
 
-pub returns-clause-held : goal.returns-clause-held
-returns-clause-held c =
+-- the value after it
+becomes : goal.returns-clause-held
+becomes c =
     let d : Duplicator = duplicator c.self.inside.opened c.self.inside.mark c.self.inside.held c.self.inside.surface c.self.inside.picture c.self.inside.mode in
     let h = c.args.log.now in
     let stands : Stands d h = subst (λ (e : Duplicator). Stands e h) (sym c.self.view_is) c.requires.stands in
@@ -62,6 +63,16 @@ returns-clause-held c =
     (c.advance.ensures.surface ∙ ap seen forward)
     (c.advance.ensures.picture ∙ forward)
     (ap (λ (e : Duplicator). e.mode) c.self.view_is)
+
+pub returns-clause-held : goal.returns-clause-held
+returns-clause-held c = becomes c
+
+pub returns-clause-stands_still : goal.returns-clause-stands_still
+returns-clause-stands_still c =
+    subst (λ (e : Duplicator). Stands e c.args.log.now) (sym (becomes c)) (stands_held c.args.self.now c.args.log.now c.args.next c.requires.stands)
+
+pub returns-clause-surface : goal.returns-clause-surface
+returns-clause-surface c = ap (λ (e : Duplicator). e.surface) (becomes c)
 
 pub returns-clause-rebuilt : goal.returns-clause-rebuilt
 returns-clause-rebuilt c =
