@@ -4,11 +4,13 @@ use Rattle.dd_geom.specs.declared.rect.Rect.{Rect}
 use Rattle.dd_geom.specs.declared.rect.Move.{Move}
 use Rattle.dd_acc.specs.Rebuild.{rebuild}
 use Rattle.dd_log.specs.declared.answers.FrameInfo.{FrameInfo}
+use Rattle.dd_log.specs.History.{History, first_entries}
+use Rattle.dd_log.specs.Desk.{view}
 use Rattle.dd_dup.specs.declared.frame.Frame.{Frame}
 use Rattle.dd_geom.specs.Grid.{Grid}
 use Rattle.dd_grid.specs.Cell.{Cell}
 use Rattle.dd_modes.specs.declared.modes.Mode.{Mode}
-use Rattle.dd_dup.specs.Reply.{Memory, release_memory}
+use Rattle.dd_dup.specs.Reply.{Memory, release_memory, frame}
 
 -- its memory, its own surface and picture, and the mode that it was opened in
 pub record Duplicator : Type 0 where
@@ -45,3 +47,8 @@ released d = record { memory = release_memory d.memory; surface = d.surface; pic
 -- after, is the surface after.
 abbrev pub Rebuilds : Grid ℕ → Option Frame → Grid ℕ → Type 0
 Rebuilds before held after = rebuild before (held_moves held) (held_dirt held) after ≡ after
+
+-- For each list and each mark: what was seen at the mark, with the frame's moves drawn and then its dirty points
+-- copied from what is seen at the end, is what is seen at the end.
+abbrev pub FramesRebuild : Type 0
+FramesRebuild = (h : History) (mark : ℕ) → rebuild (view (first_entries mark h)) (frame h mark).moves (frame h mark).dirt (view h) ≡ view h

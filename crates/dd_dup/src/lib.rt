@@ -5,7 +5,9 @@ mod counting;
 mod duplicator;
 mod forward;
 mod frame;
+mod laws;
 
 pub use dd_log::{DupRefusal, FrameInfo, Pointer};
 pub use duplicator::Dup;
 pub use frame::Frame;
+pub use laws::{frames_rebuild, stands_later};

@@ -1,0 +1,15 @@
+//! Laws of the definitions.
+
+ghost use Rattle.dd_dup.specs.Stands.{StandsLater};
+ghost use Rattle.dd_dup.specs.Duplicator.{FramesRebuild};
+
+/// A duplicator that stands on a list stands on each list that begins with it.
+pub fn stands_later()
+    ensures { StandsLater }
+{}
+
+/// The frame of an interval rebuilds what is seen of the desk at its end from what was seen at its
+/// beginning.
+pub fn frames_rebuild()
+    ensures { FramesRebuild }
+{}
