@@ -64,7 +64,7 @@ impl<A: Area> Acc<A> {
         ensures { IfOk result (λ acc. acc ≡ nothing w h) }
     {
         let area = A::empty(alloc, w, h)?;
-        let dirt = area.list()?;
+        let dirt = Rects::from_vec(Vec::new(alloc));
         Ok(Acc {
             area,
             dirt,
