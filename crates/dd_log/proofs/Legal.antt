@@ -1,13 +1,13 @@
 -- Legal lists: what a test of one entry more says, and that such an entry keeps the list legal.
-use Rattle.std.proofs.Common.{◌≡◌, ℕ, zero, suc, ◌+◌, ◌<◌, ◌≤◌, Bool, cond, true, false, ◌&&◌, not, List, [], ◌∷◌, ◌++◌, length, take, drop, Option, Some, None, nat_lt, nat_le, slice_get, sym, ap, ◌∙◌, refl, append_assoc, append-nil, arith, IsTrue, if◌then◌else◌}
+use Rattle.std.proofs.Common.{◌≡◌, ℕ, zero, suc, ◌+◌, ◌<◌, ◌≤◌, Bool, cond, true, false, ◌&&◌, not, List, [], ◌∷◌, ◌++◌, length, drop, Option, Some, None, nat_lt, slice_get, sym, ap, ◌∙◌, refl, append_assoc, append-nil, arith, if◌then◌else◌}
 use Rattle.std.specs.Prelude.{is_none}
-use Rattle.std.specs.List.{fold, list_all, position_or_len}
+use Rattle.std.specs.List.{list_all, position_or_len}
 use Rattle.std.specs.Prelude.{option_map}
 use Rattle.dd_modes.specs.Modes.{first_mode}
 use Rattle.dd_ops.specs.declared.operations.Op.{Op}
-use Rattle.dd_ops.specs.Operations.{fits, all_fit, first_unfit}
+use Rattle.dd_ops.specs.Operations.{fits, first_unfit}
 use Rattle.dd_log.specs.declared.answers.LogRefusal.TheVariants.{Full, BadRect}
-use Rattle.std.proofs.lemmas.Bool.{and_parts, and_from, and_left, false≢true}
+use Rattle.std.proofs.lemmas.Bool.{and_parts, and_from, false≢true}
 use Rattle.std.proofs.lemmas.Option.{slice_get_within}
 use Rattle.std.proofs.lemmas.List.Sums.{fold_push}
 use borrow.Author.Tests.{ltb-true, lt-ltb, leb-false, ltb-false}
@@ -19,7 +19,7 @@ use Rattle.dd_log.specs.declared.events.Draw.TheVariants.{Present}
 use Rattle.dd_log.specs.declared.events.Spec.{Spec}
 use Rattle.dd_log.specs.declared.events.TheConstants.{MAX_ACTORS}
 use Rattle.dd_log.specs.declared.answers.LogRefusal.{LogRefusal}
-use Rattle.dd_log.specs.History.{History, with_entry, first_entries, mode_of, last_step, slots, slots_after, is_full, is_free, is_app, allowed, refusal, opens_freely, may_add, legal_after, legal, event_fits, entries_fit}
+use Rattle.dd_log.specs.History.{History, with_entry, mode_of, last_step, slots, slots_after, is_full, is_free, refusal, opens_freely, may_add, legal_after, legal, event_fits, entries_fit}
 
 -- what the test of one entry more asks
 pub record MayAdd (h : History) (e : Entry) : Type 0 where

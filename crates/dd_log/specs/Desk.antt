@@ -1,10 +1,9 @@
 -- The desk: what the entries of a list make of the picture.
-use Rattle.std.specs.Prelude.{ℕ, ◌+◌, List, [], ◌∷◌, fold, drop}
+use Rattle.std.specs.Prelude.{ℕ, List, [], ◌∷◌, fold}
 use Rattle.std.specs.List.{flat_map}
 use Rattle.dd_geom.specs.Grid.{Grid}
 use Rattle.dd_grid.specs.Cell.{Cell}
 use Rattle.dd_grid.specs.Drawing.{black, seen}
-use Rattle.dd_modes.specs.declared.modes.Mode.{Mode}
 use Rattle.dd_ops.specs.declared.operations.Op.{Op}
 use Rattle.dd_ops.specs.Operations.{drawn}
 use Rattle.dd_log.specs.declared.events.Entry.{Entry}

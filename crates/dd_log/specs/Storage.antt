@@ -1,5 +1,5 @@
 -- What the list's storage keeps.
-use Rattle.std.specs.Prelude.{◌≡◌, ℕ, ◌≤◌, IsTrue, vec_len, vec_capacity}
+use Rattle.std.specs.Prelude.{◌≡◌, ◌≤◌, IsTrue, vec_len, vec_capacity}
 use Rattle.dd_log.specs.declared.storage.Log.TheInside.{Inside}
 use Rattle.dd_log.specs.declared.events.TheConstants.{MAX_CAPACITY}
 use Rattle.dd_log.specs.History.{History, legal, slots}

@@ -5,6 +5,8 @@ mod answers;
 mod events;
 mod lists;
 mod storage;
+#[cfg(test)]
+mod tests;
 
 pub use answers::{Answer, DupRefusal, FrameInfo, LogRefusal, OpenRefusal, Pointer};
 pub use events::{Draw, Entry, Event, MAX_ACTORS, MAX_CAPACITY, Spec};

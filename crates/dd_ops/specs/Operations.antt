@@ -1,5 +1,5 @@
 -- Which operations fit a surface.
-use Rattle.std.specs.Prelude.{ℕ, ◌+◌, Bool, ◌&&◌, not, nat_lt, List, fold, Option, position}
+use Rattle.std.specs.Prelude.{ℕ, Bool, ◌&&◌, not, nat_lt, List, fold, Option, position}
 use Rattle.std.specs.List.{list_all}
 use Rattle.dd_geom.specs.Grid.{Grid}
 use Rattle.dd_geom.specs.Rect.{is_inside}

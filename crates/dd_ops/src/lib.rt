@@ -3,6 +3,8 @@
 
 mod lists;
 mod operations;
+#[cfg(test)]
+mod tests;
 
 pub use lists::{Colours, MAX_OPS, Ops, OpsFault};
 pub use operations::{COLOURS, Op, apply, fits};

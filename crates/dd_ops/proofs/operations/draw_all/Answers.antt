@@ -1,4 +1,4 @@
-use Rattle.std.proofs.Common.{◌≡◌, ◌∙◌, ap, rules, IsTrue}
+use Rattle.std.proofs.Common.{◌∙◌}
 use Rattle.dd_ops.proofs.Fitting.{fits_at, drawn_more}
 use Rattle.dd_ops.proofs.operations.draw_all.Goals as goal
 

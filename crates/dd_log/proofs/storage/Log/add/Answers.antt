@@ -1,7 +1,7 @@
-use Rattle.std.proofs.Common.{◌≡◌, ℕ, ◌+◌, ◌<◌, ◌≤◌, true, ◌∙◌, sym, ap, subst, ◌∷◌, ◌++◌, [], length, IsTrue, arith, rules}
-use Rattle.dd_log.specs.History.{History, may_add, legal, opens_freely, slots, slots_after, with_entry}
+use Rattle.std.proofs.Common.{◌≡◌, ◌+◌, ◌<◌, true, sym, subst, length, arith, rules}
+use Rattle.dd_log.specs.History.{History, may_add}
 use Rattle.dd_log.specs.Storage.{history}
-use Rattle.dd_log.proofs.Legal.{MayAdd, parts_of_may_add, room_for, legal-with_entry, slots-with_entry}
+use Rattle.dd_log.proofs.Legal.{parts_of_may_add, room_for, legal-with_entry, slots-with_entry}
 use Rattle.dd_log.proofs.storage.Log.add.Goals as goal
 
 pub open-requires : goal.open-requires

@@ -1,5 +1,4 @@
-use Rattle.std.proofs.Common.{◌≡◌, ℕ, true, ◌∙◌, sym, ap, subst, drop, List, rules, IsTrue}
-use Rattle.dd_log.specs.History.{History, entries_fit, mode_of}
+use Rattle.dd_log.specs.History.{mode_of}
 use Rattle.dd_log.specs.Storage.{history}
 use Rattle.dd_log.proofs.Legal.{legal-fit, entries_fit-drop}
 use Rattle.dd_log.proofs.storage.Log.after.Goals as goal

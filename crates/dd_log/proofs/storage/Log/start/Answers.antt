@@ -1,5 +1,5 @@
-use Rattle.std.proofs.Common.{◌≡◌, ◌≤◌, true, refl, arith, rules, [], IsTrue}
-use Rattle.dd_log.specs.History.{legal, slots}
+use Rattle.std.proofs.Common.{refl, arith}
+use Rattle.dd_log.specs.History.{legal}
 use Rattle.dd_log.proofs.storage.Log.start.Goals as goal
 
 pub invariant_of-result : goal.invariant_of-result

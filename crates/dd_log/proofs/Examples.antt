@@ -1,0 +1,87 @@
+-- Small lists of a surface of 4 by 3 points with three places: which are legal, and what their desks show.
+use Rattle.std.proofs.Common.{◌≡◌, ℕ, true, false, pos, List, [], ◌∷◌, Some, None, refl}
+use Rattle.dd_geom.specs.declared.rect.Rect.{Rect}
+use Rattle.dd_geom.specs.Grid.{rows}
+use Rattle.dd_modes.specs.declared.modes.Rotation.TheVariants.{Identity}
+use Rattle.dd_ops.specs.declared.operations.Op.TheVariants.{Fill}
+use Rattle.dd_log.specs.declared.answers.LogRefusal.TheVariants.{Full, BadRect}
+use Rattle.dd_log.specs.declared.events.Spec.{Spec}
+use Rattle.dd_log.specs.declared.events.Entry.{Entry}
+use Rattle.dd_log.specs.declared.events.Event.{Event}
+use Rattle.dd_log.specs.declared.events.Event.TheVariants.{Opened}
+use Rattle.dd_log.specs.declared.events.Event.TheVariants as events
+use Rattle.dd_log.specs.declared.events.Draw.TheVariants.{Present}
+use Rattle.dd_log.specs.History.{History, begun, slots, allowed, refusal, legal, may_add}
+use Rattle.dd_log.specs.Desk.{picture, view, presents}
+
+abbrev rect : ℕ → ℕ → ℕ → ℕ → Rect
+rect l t r b = record { left = pos l; top = pos t; right = pos r; bottom = pos b }
+
+abbrev spec : Spec
+spec = record { modes = record { width = 4; height = 3; rotation = Identity } ∷ []; capacity = 3; privileged = [] }
+
+abbrev entry : ℕ → ℕ → Event → Entry
+entry actor step event = record { actor = actor; step = step; event = event }
+
+-- an application is given the first slot
+abbrev opening : Entry
+opening = entry 1 1 (Opened 0 7)
+
+-- a red rectangle is drawn
+abbrev drawing : Entry
+drawing = entry 2 1 (events.Draw (Present (Fill (rect 1 1 3 2) 16711680 ∷ [])))
+
+abbrev lists : List Entry → History
+lists es = record { spec = spec; entries = es }
+
+two_entries : legal (lists (opening ∷ drawing ∷ [])) ≡ true
+unfolding legal may_add
+two_entries = refl
+
+-- the third place is kept for the end
+no_third : legal (lists (opening ∷ drawing ∷ entry 2 2 (events.Draw (Present [])) ∷ [])) ≡ false
+unfolding legal may_add
+no_third = refl
+
+-- an actor's steps rise
+same_step : legal (lists (drawing ∷ drawing ∷ [])) ≡ false
+unfolding legal may_add
+same_step = refl
+
+-- an application has one slot, and a slot one application
+second_slot : legal (lists (opening ∷ entry 1 2 (Opened 1 7) ∷ [])) ≡ false
+unfolding legal may_add
+second_slot = refl
+
+taken_slot : legal (lists (opening ∷ entry 1 2 (Opened 0 8) ∷ [])) ≡ false
+unfolding legal may_add
+taken_slot = refl
+
+slots_then : slots (opening ∷ drawing ∷ []) ≡ Some 7 ∷ None ∷ None ∷ None ∷ []
+slots_then = refl
+
+-- a full list says so first, whatever is drawn
+full : allowed (lists (opening ∷ drawing ∷ [])) (Present (Fill (rect 3 0 5 1) 7 ∷ [])) ≡ Some Full
+full = refl
+
+full_for_openings : refusal (lists (opening ∷ drawing ∷ [])) (Opened 1 8) ≡ Some Full
+full_for_openings = refl
+
+-- one column past the right side
+outside : allowed (begun spec) (Present (Fill (rect 3 0 5 1) 7 ∷ [])) ≡ Some (BadRect 0)
+outside = refl
+
+second_outside : allowed (begun spec) (Present (Fill (rect 1 1 3 2) 7 ∷ Fill (rect 3 0 5 1) 7 ∷ Fill (rect 3 0 5 1) 7 ∷ [])) ≡ Some (BadRect 1)
+second_outside = refl
+
+nothing_drawn : allowed (begun spec) (Present []) ≡ None
+nothing_drawn = refl
+
+-- what is seen of the desk
+seen_rows : rows (view (lists (opening ∷ drawing ∷ []))) ≡ (0 ∷ 0 ∷ 0 ∷ 0 ∷ []) ∷ (0 ∷ 16711680 ∷ 16711680 ∷ 0 ∷ []) ∷ (0 ∷ 0 ∷ 0 ∷ 0 ∷ []) ∷ []
+unfolding picture
+seen_rows = refl
+
+drawn_presents : presents (opening ∷ drawing ∷ []) ≡ (Fill (rect 1 1 3 2) 16711680 ∷ []) ∷ []
+unfolding presents
+drawn_presents = refl
