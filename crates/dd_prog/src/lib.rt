@@ -10,3 +10,6 @@ mod status;
 pub use command::plain;
 pub use reading::MAX_SCRIPT_BYTES;
 pub use status::Status;
+
+#[cfg(test)]
+mod tests;

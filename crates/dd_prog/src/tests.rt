@@ -1,0 +1,247 @@
+//! Small scripts and the bytes that they give, and how a command ends.
+
+ghost use Rattle.std.specs.Prelude.{◌≤◌};
+
+use crate::{Status, plain};
+use dd_io::{Bytes, MemSink, MemSource, Numbers, read_up_to};
+use std::alloc::Global;
+use std::test::Fail;
+
+const OPEN: &str = r#"{"client":1,"call":"duplicate"}"#;
+
+const ACQUIRE: &str = r#"{"client":1,"call":"acquire"}"#;
+
+const RELEASE: &str = r#"{"client":1,"call":"release"}"#;
+
+const SURFACE: &str = r#"{"client":1,"call":"surface"}"#;
+
+const FILL: &str = r#"{"present":[{"fill":[1,1,3,2],"colour":"ff0000"}]}"#;
+
+const CORNER: &str = r#"{"present":[{"fill":[0,0,2,2],"colour":"ff0000"}]}"#;
+
+const NO_CHANGE: &str = r#"{"present":[]}"#;
+
+const OPENED: &str = r#"{"entry":1,"slot":0}"#;
+
+const FILLED: &str =
+    r#"{"dirty":[[1,1,3,2]],"frame":{"accumulated":1,"coalesced":false,"meta":16,"mouse":0,"pointer":[0,0],"present":2,"protected":false,"shape":0,"visible":false},"moves":[]}"#;
+
+const ROWS: &str =
+    r#"{"surface":["000000000000000000000000","000000ff0000ff0000000000","000000000000000000000000"]}"#;
+
+const NOTHING_NEW: &str = r#"{"code":"887a0027","refused":"WaitTimeout"}"#;
+
+const INVALID: &str = r#"{"code":"887a0001","refused":"InvalidCall"}"#;
+
+/// A script that draws once and is seen, and its answers.
+const SEEN: [&str; 4] = [OPEN, FILL, ACQUIRE, SURFACE];
+
+const SEEN_LINES: [&str; 4] = [OPENED, r#"{"entry":2}"#, FILLED, ROWS];
+
+/// A script of a 4 by 3 mode and one client.
+fn script(alloc: Global, steps: &[&str]) -> Result<Vec<u8>, Fail> {
+    let mut text = String::from_str(
+        alloc,
+        r#"{"modes":[[4,3,1]],"capacity":100,"privileged":[],"clients":[1],"steps":["#,
+    )?;
+    let mut between = "";
+    for step in steps {
+        text.push_str(between)?;
+        text.push_str(step)?;
+        between = ",";
+    }
+    text.push_str("]}")?;
+    Ok(text.into_bytes())
+}
+
+/// The lines, each ended by a line feed.
+fn lines(alloc: Global, items: &[&str]) -> Result<String, Fail> {
+    let mut text = String::new(alloc);
+    for item in items {
+        text.push_str(item)?;
+        text.push_str("\n")?;
+    }
+    Ok(text)
+}
+
+fn words(alloc: Global, items: &[&str]) -> Result<Vec<String>, Fail> {
+    let mut all = Vec::new(alloc);
+    for item in items {
+        all.push(String::from_str(alloc, item)?)?;
+    }
+    Ok(all)
+}
+
+fn numbers(alloc: Global, items: &[u64]) -> Result<Numbers, Fail> {
+    Ok(Numbers::from_vec(items.to_vec(alloc)?))
+}
+
+/// A replay of these bytes over devices that move at most `piece` bytes a call and fail these
+/// calls: how it ended, and the sink.
+fn replayed(
+    alloc: Global,
+    bytes: Vec<u8>,
+    piece: usize,
+    source_fails: &[u64],
+    sink_fails: &[u64],
+) -> Result<(Status, MemSink), Fail>
+    requires { 1 ≤ piece }
+{
+    let words = words(alloc, &["replay"])?;
+    let mut source = MemSource::new(Bytes::from_vec(bytes), piece, numbers(alloc, source_fails)?);
+    let mut sink = MemSink::new(alloc, piece, numbers(alloc, sink_fails)?);
+    let status = plain(alloc, &words, &mut source, &mut sink);
+    Ok((status, sink))
+}
+
+#[test]
+fn answers_to_the_byte(rt: HostRuntime) -> Result<(), Fail> {
+    let alloc = rt.alloc();
+    let cases: [(&str, &[&str], &[&str]); 8] = [
+        ("no steps", &[], &[]),
+        ("a fill is seen", &SEEN, &SEEN_LINES),
+        (
+            "nothing was drawn",
+            &[OPEN, ACQUIRE],
+            &[OPENED, NOTHING_NEW],
+        ),
+        (
+            "acquired twice, released twice",
+            &[OPEN, FILL, ACQUIRE, ACQUIRE, RELEASE, RELEASE],
+            &[
+                OPENED,
+                r#"{"entry":2}"#,
+                FILLED,
+                INVALID,
+                r#"{"released":true}"#,
+                INVALID,
+            ],
+        ),
+        (
+            "two rows",
+            &[OPEN, CORNER, ACQUIRE],
+            &[
+                OPENED,
+                r#"{"entry":2}"#,
+                r#"{"dirty":[[0,0,2,1],[0,1,2,2]],"frame":{"accumulated":1,"coalesced":false,"meta":32,"mouse":0,"pointer":[0,0],"present":2,"protected":false,"shape":0,"visible":false},"moves":[]}"#,
+            ],
+        ),
+        (
+            "a present that changes nothing",
+            &[OPEN, NO_CHANGE, ACQUIRE],
+            &[
+                OPENED,
+                r#"{"entry":2}"#,
+                r#"{"dirty":[],"frame":{"accumulated":1,"coalesced":false,"meta":0,"mouse":0,"pointer":[0,0],"present":2,"protected":false,"shape":0,"visible":false},"moves":[]}"#,
+            ],
+        ),
+        (
+            "no frame is held",
+            &[OPEN, SURFACE],
+            &[OPENED, r#"{"surface":null}"#],
+        ),
+        (
+            "two presents in one frame",
+            &[OPEN, FILL, FILL, ACQUIRE, RELEASE, ACQUIRE],
+            &[
+                OPENED,
+                r#"{"entry":2}"#,
+                r#"{"entry":3}"#,
+                r#"{"dirty":[[1,1,3,2]],"frame":{"accumulated":2,"coalesced":false,"meta":16,"mouse":0,"pointer":[0,0],"present":3,"protected":false,"shape":0,"visible":false},"moves":[]}"#,
+                r#"{"released":true}"#,
+                NOTHING_NEW,
+            ],
+        ),
+    ];
+    for (name, steps, want) in cases {
+        let (status, sink) = replayed(alloc, script(alloc, steps)?, 4096, &[], &[])?;
+        assert_eq!(rt; status, Status::Done, "{name}");
+        assert_eq!(rt; sink.bytes(), lines(alloc, want)?.as_bytes(), "{name}");
+    }
+    Ok(())
+}
+
+#[test]
+fn other_words_read_nothing(rt: HostRuntime) -> Result<(), Fail> {
+    let alloc = rt.alloc();
+    let cases: [&[&str]; 4] = [&[], &["play"], &["replay", "x"], &["replay "]];
+    for items in cases {
+        let bytes = Bytes::from_vec(script(alloc, &SEEN)?);
+        let mut source = MemSource::new(bytes, 7, numbers(alloc, &[])?);
+        let mut sink = MemSink::new(alloc, 7, numbers(alloc, &[])?);
+        let status = plain(alloc, &words(alloc, items)?, &mut source, &mut sink);
+        assert_eq!(rt; status, Status::BadWords, "{items:?}");
+        let left = read_up_to(alloc, &mut source, 1000)?;
+        assert_eq!(rt; left.as_slice(), script(alloc, &SEEN)?.as_slice());
+        assert_eq!(rt; sink.bytes().len(), 0);
+    }
+    Ok(())
+}
+
+#[test]
+fn other_bytes_write_nothing(rt: HostRuntime) -> Result<(), Fail> {
+    let alloc = rt.alloc();
+    let cases = [
+        (
+            "a byte too long",
+            vec![in alloc; b' '; 16_777_217]?,
+            Status::TooLong,
+        ),
+        (
+            "the longest",
+            vec![in alloc; b' '; 16_777_216]?,
+            Status::BadScript,
+        ),
+        ("no tree", b"{".to_vec(alloc)?, Status::BadScript),
+        ("no script", b"{}".to_vec(alloc)?, Status::BadScript),
+    ];
+    for (name, bytes, want) in cases {
+        let (status, sink) = replayed(alloc, bytes, 4096, &[], &[])?;
+        assert_eq!(rt; status, want, "{name}");
+        assert_eq!(rt; sink.bytes().len(), 0, "{name}");
+    }
+    Ok(())
+}
+
+#[test]
+fn devices_in_pieces_and_their_faults(rt: HostRuntime) -> Result<(), Fail> {
+    let alloc = rt.alloc();
+    // What a call moves, the calls that fail of the source and of the sink, how it ends, and how
+    // many lines are written.
+    let cases: [(usize, &[u64], &[u64], Status, usize); 8] = [
+        (1, &[], &[], Status::Done, 4),
+        (7, &[], &[], Status::Done, 4),
+        (4096, &[1], &[], Status::ReadFault, 0),
+        (4096, &[2], &[], Status::ReadFault, 0),
+        (4096, &[], &[1], Status::WriteFault, 0),
+        (4096, &[], &[2], Status::WriteFault, 1),
+        (4096, &[], &[3], Status::WriteFault, 2),
+        (4096, &[], &[4], Status::WriteFault, 3),
+    ];
+    for (piece, source_fails, sink_fails, want, written) in cases {
+        let bytes = script(alloc, &SEEN)?;
+        let (status, sink) = replayed(alloc, bytes, piece.max(1), source_fails, sink_fails)?;
+        assert_eq!(rt; status, want, "{piece} bytes a call, {written} lines");
+        let held = lines(alloc, &SEEN_LINES[..written.min(4)])?;
+        assert_eq!(rt; sink.bytes(), held.as_bytes(), "{piece} bytes a call");
+    }
+    Ok(())
+}
+
+#[test]
+fn statuses_have_numbers_and_names(rt: HostRuntime) {
+    let cases = [
+        (Status::Done, 0, "Done"),
+        (Status::OutOfMemory, 1, "OutOfMemory"),
+        (Status::BadWords, 2, "BadWords"),
+        (Status::TooLong, 3, "TooLong"),
+        (Status::BadScript, 4, "BadScript"),
+        (Status::BadRecord, 5, "BadRecord"),
+        (Status::ReadFault, 6, "ReadFault"),
+        (Status::WriteFault, 7, "WriteFault"),
+    ];
+    for (status, number, name) in cases {
+        assert_eq!(rt; status as u8, number, "{name}");
+        assert_eq!(rt; status.name(), name);
+    }
+}
