@@ -4,8 +4,10 @@
 ghost use Rattle.std.specs.Prelude.{◌≡◌};
 ghost use Rattle.dd_table.specs.Opening.{opening};
 
-use dd_log::Log;
+#[cfg(test)]
+mod tests;
 
+use dd_log::Log;
 pub use dd_log::OpenRefusal;
 
 /// The slot, 0 to 3, that a duplicator of an application would have: the least that is free.
