@@ -1,3 +1,4 @@
+pub mod Examples
 pub mod Origins
 pub mod Rebuilding
 pub mod Nowhere

@@ -1,11 +1,11 @@
 -- Where points come from through two lists of effects, and what one operation more touches.
-use Rattle.std.proofs.Common.{◌≡◌, ℕ, ◌+◌, ◌<◌, Bool, true, false, ◌||◌, List, [], ◌∷◌, ◌++◌, map, length, take, get_or, refl, sym, ap, ◌∙◌, if◌then◌else◌}
+use Rattle.std.proofs.Common.{◌≡◌, ℕ, ◌+◌, ◌<◌, Bool, true, false, ◌||◌, List, [], ◌∷◌, ◌++◌, length, take, get_or, refl, sym, ap, ◌∙◌, if◌then◌else◌}
 use Rattle.std.proofs.lemmas.List.{take_more, map-append}
 use Rattle.dd_geom.specs.declared.rect.Rect.{Rect}
 use Rattle.dd_geom.specs.Rect.{has}
-use Rattle.dd_geom.specs.Grid.{Grid, grid, value_at}
+use Rattle.dd_geom.specs.Grid.{Grid}
 use Rattle.dd_geom.proofs.GridLemmas.{grid_from_agree, value_at-grid, grid-value_at, length-cells}
-use Rattle.dd_bits.specs.Area.{is_in, nowhere, with_rect}
+use Rattle.dd_bits.specs.Area.{is_in, nowhere}
 use Rattle.dd_ops.specs.declared.operations.Op.{Op}
 use Rattle.dd_ops.specs.declared.operations.Op.TheVariants.{Fill}
 use Rattle.dd_ops.specs.Operations.{fits, all_fit}

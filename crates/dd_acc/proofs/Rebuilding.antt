@@ -1,7 +1,7 @@
 -- A point that nothing touched is as it was, so a surface is rebuilt by copying the dirty points.
-use Rattle.std.proofs.Common.{◌≡◌, ℕ, ◌+◌, ◌<◌, ◌≤◌, Bool, true, false, ◌||◌, List, [], ◌∷◌, ◌++◌, refl, sym, ap, ◌∙◌, if◌then◌else◌, inl, inr, ⊎_elim, ◌⊎◌}
+use Rattle.std.proofs.Common.{◌≡◌, ℕ, ◌<◌, Bool, true, false, ◌||◌, List, [], ◌∷◌, refl, sym, ap, ◌∙◌, if◌then◌else◌, inl, inr, ⊎_elim, ◌⊎◌}
 use Rattle.std.specs.List.{fold}
-use Rattle.std.proofs.lemmas.Bool.{false≢true, cond-true, cond-false, cases_lt}
+use Rattle.std.proofs.lemmas.Bool.{cond-false, cases_lt}
 use Rattle.dd_geom.specs.declared.rect.Rect.{Rect}
 use Rattle.dd_geom.specs.Rect.{has}
 use Rattle.dd_geom.specs.Grid.{Grid, grid, value_at}
@@ -11,7 +11,7 @@ use Rattle.dd_grid.specs.Drawing.{cell_at, filled, seen}
 use Rattle.dd_bits.specs.Area.{is_in, nowhere}
 use Rattle.dd_ops.specs.declared.operations.Op.{Op}
 use Rattle.dd_ops.specs.declared.operations.Op.TheVariants.{Fill}
-use Rattle.dd_ops.specs.Operations.{drawn, drawn_by}
+use Rattle.dd_ops.specs.Operations.{drawn}
 use Rattle.dd_acc.specs.Effects.{Effect, over, effects, Origin, fresh, kept, before, back, origin, is_touched, touched, dirtied, dirt}
 use Rattle.dd_acc.specs.Rebuild.{any_has, copied}
 use Rattle.dd_acc.proofs.Origins.{touched-touched, width-dirtied, height-dirtied}

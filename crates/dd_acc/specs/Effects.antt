@@ -1,6 +1,5 @@
 -- What operations do to a point of the surface, and where a point comes from, followed backward.
-use Rattle.std.specs.Prelude.{◌≡◌, ℕ, ◌*◌, length, Bool, true, false, if◌then◌else◌, List, [], ◌∷◌, ◌++◌, map, fold}
-use Rattle.std.specs.List.{flat_map}
+use Rattle.std.specs.Prelude.{◌≡◌, ℕ, ◌*◌, length, Bool, true, if◌then◌else◌, List, [], ◌∷◌, ◌++◌, map, fold}
 use Rattle.dd_geom.specs.declared.rect.Rect.{Rect}
 use Rattle.dd_geom.specs.Rect.{has}
 use Rattle.dd_geom.specs.Grid.{Grid, grid}

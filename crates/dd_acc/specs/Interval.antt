@@ -1,5 +1,5 @@
 -- What was accumulated over an interval.
-use Rattle.std.specs.Prelude.{ℕ, ◌+◌, Bool, List, []}
+use Rattle.std.specs.Prelude.{ℕ, ◌+◌, Bool, List}
 use Rattle.dd_geom.specs.Grid.{Grid}
 use Rattle.dd_bits.specs.Area.{nowhere}
 use Rattle.dd_ops.specs.declared.operations.Op.{Op}

@@ -3,6 +3,8 @@
 
 mod interval;
 mod laws;
+#[cfg(test)]
+mod tests;
 
 pub use interval::Acc;
 pub use laws::touched_composes;

@@ -2,5 +2,7 @@
 #![tactic(auto)]
 
 mod modes;
+#[cfg(test)]
+mod tests;
 
 pub use modes::{MAX_MODES, Mode, Modes, Rotation};

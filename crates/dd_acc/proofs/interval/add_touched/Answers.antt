@@ -1,10 +1,7 @@
-use Rattle.std.proofs.Common.{◌≡◌, ℕ, Bool, pos, ◌<◌, true, ◌∙◌, sym, ap, subst, length, take, get_or, IsTrue}
-use Rattle.std.proofs.lemmas.List.{take_more}
+use Rattle.std.proofs.Common.{◌≡◌, Bool, pos, ◌∙◌, ap, get_or}
 use Rattle.dd_ops.specs.declared.operations.Op.{Op}
 use Rattle.dd_ops.specs.declared.operations.Op.TheVariants.{Fill}
 use Rattle.dd_geom.specs.Grid.{Grid}
-use Rattle.dd_ops.specs.Operations.{fits}
-use Rattle.dd_acc.specs.Effects.{dirtied, with_drawn}
 use Rattle.dd_acc.proofs.Origins.{dirtied-none, dirtied_more, width-dirtied, height-dirtied, fits_at}
 use Rattle.dd_acc.proofs.interval.add_touched.Goals as goal
 

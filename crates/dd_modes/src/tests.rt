@@ -1,0 +1,51 @@
+//! Each public call, on modes at the limits.
+
+use crate::{MAX_MODES, Mode, Modes, Rotation};
+use std::test::Fail;
+
+fn mode(width: u32, height: u32) -> Mode {
+    Mode {
+        width,
+        height,
+        rotation: Rotation::Identity,
+    }
+}
+
+#[test]
+fn sizes_keep_the_limits(rt: HostRuntime) {
+    let cases = [
+        ("a point", 1, 1, true),
+        ("the widest that is as high as allowed", 8192, 2048, true),
+        ("the highest that is as wide as allowed", 2048, 8192, true),
+        ("too wide", 8193, 1, false),
+        ("too high", 1, 8193, false),
+        ("a row too many for the pixels", 8192, 2049, false),
+        ("no column", 0, 1, false),
+        ("no row", 1, 0, false),
+        ("sides whose product wraps to 0", 0x1_0000, 0x1_0000, false),
+    ];
+    for (name, width, height, want) in cases {
+        assert_eq!(rt; mode(width, height).is_within_limits(), want, "{name}");
+    }
+}
+
+#[test]
+fn lists_of_modes(rt: HostRuntime) -> Result<(), Fail> {
+    let alloc = rt.alloc();
+    let turned = Mode {
+        rotation: Rotation::Rotate90,
+        ..mode(4, 3)
+    };
+    let modes = Modes::from_vec(vec![in alloc; turned, mode(8192, 2048)]?).ok_or("no modes")?;
+    assert_eq!(rt; modes.first(), turned);
+    assert_eq!(rt; modes.as_slice(), [turned, mode(8192, 2048)].as_slice());
+
+    let most = vec![in alloc; mode(4, 3); MAX_MODES]?;
+    assert!(rt; Modes::from_vec(most).is_some());
+    let many = vec![in alloc; mode(4, 3); MAX_MODES + 1]?;
+    assert!(rt; Modes::from_vec(many).is_none());
+    assert!(rt; Modes::from_vec(Vec::new(alloc)).is_none());
+    let wide = vec![in alloc; mode(4, 3), mode(8193, 1)]?;
+    assert!(rt; Modes::from_vec(wide).is_none());
+    Ok(())
+}
