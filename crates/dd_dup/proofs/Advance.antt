@@ -1,10 +1,10 @@
 -- What is copied of the dirty rectangles is the surface of the picture brought forward.
-use Rattle.std.proofs.Common.{◌≡◌, ℕ, ◌+◌, ◌*◌, ◌<◌, Bool, true, false, ◌||◌, List, [], ◌∷◌, length, refl, sym, ap, ◌∙◌, subst, if◌then◌else◌, cond, arith, IsTrue}
+use Rattle.std.proofs.Common.{◌≡◌, ℕ, ◌+◌, Bool, true, false, ◌||◌, List, [], ◌∷◌, refl, sym, ap, ◌∙◌, subst, if◌then◌else◌, cond, arith, IsTrue}
 use Rattle.std.specs.List.{fold, list_any, count_by, All}
 use Rattle.std.proofs.lemmas.List.Sums.{sum_by-cons}
 use Rattle.dd_geom.specs.declared.rect.Rect.{Rect}
 use Rattle.dd_geom.specs.Rect.{has, is_inside}
-use Rattle.dd_geom.specs.Grid.{Grid, grid, value_at}
+use Rattle.dd_geom.specs.Grid.{Grid}
 use Rattle.dd_geom.proofs.GridLemmas.{length-cells}
 use Rattle.dd_grid.specs.Cell.{Cell, seen_cell}
 use Rattle.dd_grid.specs.Drawing.{cell_at, seen}
@@ -12,7 +12,6 @@ use Rattle.dd_bits.specs.Area.{is_in, nowhere}
 use Rattle.dd_bits.specs.Runs.{runs}
 use Rattle.dd_bits.proofs.Cover.{count_by-runs, All-runs}
 use Rattle.dd_ops.specs.declared.operations.Op.{Op}
-use Rattle.dd_ops.specs.Operations.{drawn}
 use Rattle.dd_acc.specs.Effects.{dirtied, dirt}
 use Rattle.dd_acc.specs.Rebuild.{any_has, copied}
 use Rattle.dd_acc.proofs.Origins.{width-dirtied, height-dirtied}

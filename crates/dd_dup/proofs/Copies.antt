@@ -1,10 +1,9 @@
 -- Rectangles copied one after another are copied as one set of points.
 use Rattle.std.proofs.Common.{◌≡◌, ℕ, ◌+◌, ◌*◌, ◌<◌, Bool, true, false, ◌||◌, List, [], ◌∷◌, length, take, get_or, refl, sym, ap, ◌∙◌, if◌then◌else◌}
-use Rattle.std.specs.List.{fold}
 use Rattle.std.proofs.lemmas.List.Sums.{fold_more}
 use Rattle.dd_geom.specs.declared.rect.Rect.{Rect}
 use Rattle.dd_geom.specs.Rect.{has}
-use Rattle.dd_geom.specs.Grid.{Grid, grid, value_at}
+use Rattle.dd_geom.specs.Grid.{Grid, value_at}
 use Rattle.dd_geom.proofs.GridLemmas.{grid_from_agree, grid-value_at, value_at-grid, length-cells}
 use Rattle.dd_grid.specs.Cell.{Cell, seen_cell}
 use Rattle.dd_grid.specs.Drawing.{cell_at, seen, taken}

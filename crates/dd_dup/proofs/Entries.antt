@@ -1,6 +1,6 @@
 -- Entries one after another: what one more adds to the presents, the picture and what is accumulated.
 use Rattle.std.proofs.Common.{◌≡◌, ℕ, ◌+◌, ◌<◌, ◌≤◌, true, List, [], ◌∷◌, ◌++◌, length, take, get_or, refl, sym, ap, ◌∙◌, append-nil, arith, length-append}
-use Rattle.std.specs.List.{fold, flat_map}
+use Rattle.std.specs.List.{fold}
 use Rattle.std.proofs.lemmas.List.{take_more}
 use Rattle.std.proofs.lemmas.List.Concat.{flat_map-append}
 use Rattle.std.proofs.lemmas.List.Sums.{AllPass-from_list_all, fold_push}
@@ -11,7 +11,7 @@ use Rattle.dd_bits.specs.Area.{nowhere}
 use Rattle.dd_ops.specs.declared.operations.Op.{Op}
 use Rattle.dd_ops.specs.Operations.{drawn}
 use Rattle.dd_acc.specs.Effects.{dirtied}
-use Rattle.dd_acc.specs.Interval.{Interval, nothing, with_present}
+use Rattle.dd_acc.specs.Interval.{Interval, nothing}
 use Rattle.dd_acc.proofs.Origins.{width-dirtied, height-dirtied}
 use Rattle.dd_log.specs.declared.events.Entry.{Entry}
 use Rattle.dd_log.specs.declared.events.Event.{Event}

@@ -1,7 +1,6 @@
 -- The frame that is made, and lists that begin with one that a duplicator stands on.
-use Rattle.std.proofs.Common.{◌≡◌, ℕ, zero, suc, ◌+◌, ◌*◌, ◌<◌, ◌≤◌, Bool, true, false, List, [], ◌∷◌, ◌++◌, length, take, drop, Option, Some, None, refl, sym, ap, ◌∙◌, subst, arith, if◌then◌else◌, pos}
+use Rattle.std.proofs.Common.{◌≡◌, ℕ, zero, suc, ◌*◌, ◌<◌, ◌≤◌, Bool, true, false, List, [], ◌∷◌, length, take, drop, Option, Some, None, refl, sym, ap, ◌∙◌, arith, if◌then◌else◌, pos}
 use Rattle.std.specs.Prelude.{slice_get}
-use Rattle.std.specs.List.{fold}
 use Rattle.std.proofs.lemmas.List.Sums.{fold-append}
 use Rattle.std.proofs.Math.Nat.{mul_comm}
 use Rattle.std.proofs.lemmas.List.{take-append-drop, take_all, take-take}
@@ -31,7 +30,7 @@ use Rattle.dd_dup.specs.Reply.{Memory, frame, frame_of, dirt_of, last_present, n
 use Rattle.dd_dup.specs.Forward.{accumulated}
 use Rattle.dd_dup.specs.Duplicator.{Duplicator, duplicator}
 use Rattle.dd_dup.specs.Stands.{Stands, opens_at, is_opening}
-use Rattle.dd_dup.proofs.Entries.{width-accumulated, height-accumulated, area-accumulated, frames-accumulated}
+use Rattle.dd_dup.proofs.Entries.{width-accumulated, height-accumulated, area-accumulated}
 use Rattle.dd_dup.proofs.Advance.{width-shown, height-shown}
 
 abbrev pub made : ℕ → ℕ → ℕ → List Move → List Rect → Frame

@@ -1,5 +1,5 @@
 -- What one duplicator answers, told by its memory and the list.
-use Rattle.std.specs.Prelude.{◌≡◌, ℕ, ◌+◌, ◌*◌, ◌==◌, Bool, true, false, if◌then◌else◌, pos, List, [], ◌∷◌, length, take, drop, Option, Some, None, is_some, option_map, Result, Ok, Err}
+use Rattle.std.specs.Prelude.{◌≡◌, ℕ, ◌+◌, ◌*◌, ◌==◌, false, if◌then◌else◌, pos, List, [], ◌∷◌, length, drop, Option, Some, None, is_some, option_map, Result, Ok, Err}
 use Rattle.dd_geom.specs.declared.rect.Rect.{Rect}
 use Rattle.dd_dup.specs.declared.frame.Frame.{Frame}
 use Rattle.dd_geom.specs.Grid.{rows}

@@ -1,5 +1,4 @@
-use Rattle.std.proofs.Common.{◌≡◌, ◌+◌, ◌≤◌, length, take, ◌∙◌, sym, ap, arith}
-use Rattle.dd_log.specs.Desk.{presents}
+use Rattle.std.proofs.Common.{sym, arith}
 use Rattle.dd_dup.proofs.Entries.{presents_none, presents_more}
 use Rattle.dd_dup.proofs.counting.count_presents.Goals as goal
 

@@ -1,4 +1,4 @@
-use Rattle.std.proofs.Common.{◌≡◌, ◌∙◌, sym, ap, arith, length, List, ◌*◌}
+use Rattle.std.proofs.Common.{◌∙◌, ap, arith, length, List, ◌*◌}
 use Rattle.dd_geom.specs.declared.rect.Rect.{Rect}
 use Rattle.dd_dup.proofs.Frames.{frame_made, dirt_made, few_made}
 use Rattle.dd_dup.proofs.Entries.{frames-accumulated}

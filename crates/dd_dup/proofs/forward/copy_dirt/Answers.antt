@@ -1,4 +1,4 @@
-use Rattle.std.proofs.Common.{◌≡◌, ◌∙◌, sym}
+use Rattle.std.proofs.Common.{◌∙◌}
 use Rattle.dd_dup.proofs.Copies.{copied_more}
 use Rattle.dd_dup.proofs.forward.copy_dirt.Goals as goal
 

@@ -1,4 +1,4 @@
-use Rattle.std.proofs.Common.{◌≡◌, ◌∙◌, sym}
+use Rattle.std.proofs.Common.{◌∙◌}
 use Rattle.dd_dup.proofs.Entries.{fit_item, shown_more}
 use Rattle.dd_dup.proofs.forward.draw_entries.Goals as goal
 

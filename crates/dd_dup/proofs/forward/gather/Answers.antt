@@ -1,4 +1,4 @@
-use Rattle.std.proofs.Common.{◌≡◌, ◌≤◌, ◌<◌, ℕ, length, ◌∙◌, sym, ap, arith}
+use Rattle.std.proofs.Common.{◌≡◌, ◌≤◌, ◌<◌, length, ◌∙◌, sym, ap, arith}
 use Rattle.dd_acc.specs.Interval.{Interval}
 use Rattle.dd_dup.proofs.Entries.{fit_item, accumulated_none, accumulated_more, width-accumulated, height-accumulated, few_frames}
 use Rattle.dd_log.specs.declared.events.TheConstants.{MAX_CAPACITY}

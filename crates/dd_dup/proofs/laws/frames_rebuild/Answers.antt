@@ -1,4 +1,4 @@
-use Rattle.std.proofs.Common.{◌≡◌, ℕ, List, drop, ◌∙◌, sym, ap}
+use Rattle.std.proofs.Common.{◌≡◌, ℕ, List, ◌∙◌, sym, ap}
 use Rattle.std.specs.List.{fold}
 use Rattle.dd_geom.specs.declared.rect.Rect.{Rect}
 use Rattle.dd_geom.specs.declared.rect.Move.{Move}
@@ -7,7 +7,7 @@ use Rattle.dd_grid.specs.Cell.{Cell}
 use Rattle.dd_grid.specs.Drawing.{seen}
 use Rattle.dd_acc.specs.Rebuild.{moved, copied, rebuild}
 use Rattle.dd_log.specs.History.{History, first_entries, mode_of}
-use Rattle.dd_log.specs.Desk.{picture, view, shown}
+use Rattle.dd_log.specs.Desk.{picture, view}
 use Rattle.dd_dup.specs.Reply.{frame, dirt_of, news}
 use Rattle.dd_dup.proofs.Advance.{copied-dirt}
 use Rattle.dd_dup.proofs.Frames.{width-picture, height-picture, picture_forward, frame-dirt, frame-moves}

@@ -1,8 +1,7 @@
-use Rattle.std.proofs.Common.{◌≡◌, ℕ, ◌+◌, ◌<◌, length, ◌∙◌, sym, ap, subst, arith}
+use Rattle.std.proofs.Common.{ℕ, ◌+◌, ◌<◌, length, sym, ap, subst, arith}
 use Rattle.std.proofs.lemmas.Result.{err_from_is_err_and}
-use Rattle.dd_station.specs.declared.steps.Step.{Step}
-use Rattle.dd_station.specs.Run.{State, IsOfClient}
-use Rattle.dd_prog.proofs.Playing.{SoFar, so_far_none, so_far_more, so_far_all, of_client_at, stopped}
+use Rattle.dd_station.specs.Run.{IsOfClient}
+use Rattle.dd_prog.proofs.Playing.{so_far_none, so_far_more, so_far_all, of_client_at, stopped}
 use Rattle.dd_prog.proofs.replay.play_all.Goals as goal
 
 pub loop-step-init : goal.loop-step-init

@@ -1,7 +1,3 @@
-use Rattle.std.proofs.Common.{◌≡◌, ℕ, ◌+◌, ◌≤◌, List, ◌++◌, drop, length}
-use Rattle.std.specs.Io.KnownBytes.{Appends}
-use Rattle.dd_station.specs.Run.{State, answers}
-use Rattle.dd_script.specs.Texts.{text}
 use Rattle.dd_prog.proofs.Playing.{SoFar}
 use Rattle.dd_prog.proofs.replay.play_all.Given as goal
 

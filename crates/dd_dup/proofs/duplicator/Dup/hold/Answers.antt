@@ -1,4 +1,4 @@
-use Rattle.std.proofs.Common.{◌≡◌, ◌∙◌, ℕ, sym, ap, subst, true, IsTrue, List, [], drop, Some}
+use Rattle.std.proofs.Common.{◌≡◌, ◌∙◌, ℕ, sym, ap, subst, true, List, [], drop, Some}
 use Rattle.std.specs.List.{fold}
 use Rattle.dd_geom.specs.declared.rect.Rect.{Rect}
 use Rattle.dd_geom.specs.declared.rect.Move.{Move}
@@ -6,11 +6,10 @@ use Rattle.dd_geom.specs.Grid.{Grid}
 use Rattle.dd_grid.specs.Cell.{Cell}
 use Rattle.dd_grid.specs.Drawing.{seen}
 use Rattle.dd_acc.specs.Rebuild.{moved, copied}
-use Rattle.dd_log.specs.declared.events.Entry.{Entry}
 use Rattle.dd_log.specs.History.{entries_fit, mode_of}
 use Rattle.dd_log.specs.Desk.{picture, view, shown}
 use Rattle.dd_dup.specs.declared.frame.Frame.{Frame}
-use Rattle.dd_dup.specs.Reply.{frame, dirt_of, news}
+use Rattle.dd_dup.specs.Reply.{dirt_of, news}
 use Rattle.dd_dup.specs.Duplicator.{Duplicator, duplicator}
 use Rattle.dd_dup.specs.Stands.{Stands}
 use Rattle.dd_dup.proofs.Frames.{width-picture, height-picture, picture_forward, frame-dirt, frame-moves, same_parts, stands_held}

@@ -1,4 +1,3 @@
-use Rattle.std.proofs.Common.{◌≡◌}
 use Rattle.dd_dup.proofs.Frames.{stands_fresh}
 use Rattle.dd_dup.proofs.duplicator.Dup.start.Goals as goal
 
