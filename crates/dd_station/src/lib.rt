@@ -5,6 +5,8 @@ mod calls;
 mod opening;
 mod station;
 mod steps;
+#[cfg(test)]
+mod tests;
 
 pub use station::Station;
 pub use steps::{ClientCall, MAX_CLIENTS, Script, Step, Steps};
