@@ -11,3 +11,6 @@ pub use dd_log::{DupRefusal, FrameInfo, Pointer};
 pub use duplicator::Dup;
 pub use frame::Frame;
 pub use laws::{frames_rebuild, stands_later};
+
+#[cfg(test)]
+mod tests;
