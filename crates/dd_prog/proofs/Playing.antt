@@ -1,5 +1,5 @@
 -- Steps played one after another: what was written so far, and what is left to write.
-use Rattle.std.proofs.Common.{◌≡◌, ℕ, zero, suc, ◌+◌, ◌<◌, ◌≤◌, List, [], ◌∷◌, ◌++◌, length, drop, get_or, Option, Some, None, Result, Ok, Err, refl, sym, ap, ◌∙◌, subst, arith, append_assoc, append-nil, length-append}
+use Rattle.std.proofs.Common.{◌≡◌, ℕ, zero, suc, ◌+◌, ◌<◌, ◌≤◌, List, [], ◌∷◌, ◌++◌, length, drop, get_or, Option, Some, None, Err, refl, sym, ap, ◌∙◌, subst, arith, append_assoc, append-nil, length-append}
 use Rattle.std.specs.List.{AllByRecursion}
 use Rattle.std.specs.Io.KnownBytes.{Appends}
 use Rattle.std.proofs.lemmas.List.{take-append-le, drop_all}
@@ -8,12 +8,8 @@ use Rattle.dd_io.specs.Transfer.{AppendsPrefix}
 use Rattle.dd_io.proofs.Pieces.{AppendsPrefix-next}
 use Rattle.std.proofs.KnownBytes.{Appends-trans}
 use Rattle.dd_station.specs.declared.steps.Step.{Step}
-use Rattle.dd_station.specs.declared.steps.Step.TheVariants as steps
-use Rattle.dd_station.specs.declared.steps.ClientCall.{ClientCall}
-use Rattle.dd_station.specs.declared.steps.ClientCall.TheVariants as calls
-use Rattle.dd_log.specs.declared.answers.OpenRefusal.{OpenRefusal}
-use Rattle.dd_table.specs.Opening.{opening}
-use Rattle.dd_station.specs.Run.{State, next, answers, called, opened_or, app_of, IsOfClient}
+use Rattle.dd_station.specs.Run.{State, next, answers, IsOfClient}
+use Rattle.dd_station.proofs.Stepped.{stepped_next}
 use Rattle.dd_script.specs.Texts.{line, text}
 use Rattle.dd_prog.specs.declared.fault.RunFault.{RunFault}
 use Rattle.dd_prog.specs.declared.fault.RunFault.TheVariants as faults
@@ -44,22 +40,6 @@ pub text-none : (s : State) → text (answers s []) ≡ []
 unfolding text
 text-none s = refl
 
--- a step keeps the clients, and is counted
-clients_opened : (r : Result ℕ OpenRefusal) (s : State) (k : ℕ) → ((opened_or r s k).1.clients ≡ s.clients) × ((opened_or r s k).1.steps ≡ s.steps + 1)
-clients_opened (Ok slot) s k = (refl, refl)
-clients_opened (Err cause) s k = (refl, refl)
-
-clients_called : (s : State) (k : ℕ) (call : ClientCall) → ((called s k call).1.clients ≡ s.clients) × ((called s k call).1.steps ≡ s.steps + 1)
-clients_called s k calls.Duplicate = clients_opened (opening s.history (app_of s k)) s k
-clients_called s k (calls.Acquire timeout) = (refl, refl)
-clients_called s k calls.Release = (refl, refl)
-clients_called s k calls.Surface = (refl, refl)
-
-pub clients_next : (s : State) (t : Step) → ((next s t).1.clients ≡ s.clients) × ((next s t).1.steps ≡ s.steps + 1)
-unfolding next
-clients_next s (steps.Draw d) = (refl, refl)
-clients_next s (steps.Call k call) = clients_called s k call
-
 -- the step at a place, of a client
 pub of_client_at : (n : ℕ) (ss : List Step) (k : ℕ) (t : Step) → AllByRecursion (IsOfClient n) ss → k < length ss → t ≡ get_or ss k t → IsOfClient n t
 of_client_at n [] k t all k_in is = absurd (omega arith)
@@ -87,7 +67,7 @@ pub so_far_more : (held now after : Option (List ℕ)) (before risen higher : �
     → SoFar held now before risen first state ss k → k < length ss → t ≡ get_or ss k t
     → Appends now after (line (next state t).0) → risen ≤ higher → later ≡ (next state t).1 → SoFar held after before higher first later ss (k + 1)
 so_far_more held now after before risen higher first state later ss k t so k_in is app rises later_is =
-    let kept = clients_next state t in
+    let kept = stepped_next state t in
     let so_later = so.later in
     let counted = so.steps in
     subst (λ (s : State). SoFar held after before higher first s ss (k + 1)) (sym later_is) (record {

@@ -1,0 +1,61 @@
+-- Whole runs, computed from the bytes of a script to the bytes of its answers.
+use Rattle.std.proofs.Common.{◌≡◌, ℕ, List, ◌++◌, ◌∷◌, [], codes, Option, Some, refl}
+use Rattle.std.specs.Prelude.{option_map, option_and_then}
+use Rattle.std.specs.Fmt.{digits}
+use Rattle.serde_json.specs.Read.{read}
+use Rattle.hex.specs.Hex.{encode_with}
+use Rattle.dd_bits.specs.Runs.{run_end, runs}
+use Rattle.dd_acc.specs.Effects.{dirtied}
+use Rattle.dd_log.specs.Desk.{picture, presents}
+use Rattle.dd_dup.specs.Reply.{dirt_of, frame_of}
+use Rattle.dd_station.specs.Run.{next, run}
+use Rattle.dd_script.specs.Script.{script_of}
+use Rattle.dd_script.specs.Answers.{point_tree, rect_tree, move_tree, info_tree, frame_tree, row_digits, surface_tree, refusal_tree, log_refusal_tree, open_refusal_tree, dup_refusal_tree, answer_tree}
+use Rattle.dd_script.specs.Texts.{line, text}
+use Rattle.dd_script.proofs.OnLiterals.{script_on_literals}
+
+-- what a replay of these bytes writes, if they are a script
+abbrev replayed : List ℕ → Option (List ℕ)
+replayed bytes = option_map (λ s. text (run s)) (option_and_then script_of (read bytes))
+
+-- one fill, acquired and shown
+one_fill : replayed (codes "{\"modes\":[[4,3,1]],\"capacity\":100,\"privileged\":[],\"clients\":[1],\"steps\":[{\"client\":1,\"call\":\"duplicate\"},{\"present\":[{\"fill\":[1,1,3,2],\"colour\":\"ff0000\"}]},{\"client\":1,\"call\":\"acquire\"},{\"client\":1,\"call\":\"surface\"}]}")
+    ≡ Some (codes "{\"entry\":1,\"slot\":0}" ++ 10 ∷ []
+    ++ codes "{\"entry\":2}" ++ 10 ∷ []
+    ++ codes "{\"dirty\":[[1,1,3,2]],\"frame\":{\"accumulated\":1,\"coalesced\":false,\"meta\":16,\"mouse\":0,\"pointer\":[0,0],\"present\":2,\"protected\":false,\"shape\":0,\"visible\":false},\"moves\":[]}" ++ 10 ∷ []
+    ++ codes "{\"surface\":[\"000000000000000000000000\",\"000000ff0000ff0000000000\",\"000000000000000000000000\"]}" ++ 10 ∷ [])
+unfolding script_on_literals next run text line digits encode_with picture presents dirtied runs run_end dirt_of frame_of point_tree rect_tree move_tree info_tree frame_tree row_digits surface_tree refusal_tree log_refusal_tree open_refusal_tree dup_refusal_tree answer_tree
+one_fill = refl
+
+-- nothing is new
+timeout : replayed (codes "{\"modes\":[[4,3,1]],\"capacity\":100,\"privileged\":[],\"clients\":[1],\"steps\":[{\"client\":1,\"call\":\"duplicate\"},{\"client\":1,\"call\":\"acquire\"}]}")
+    ≡ Some (codes "{\"entry\":1,\"slot\":0}" ++ 10 ∷ [] ++ codes "{\"code\":\"887a0027\",\"refused\":\"WaitTimeout\"}" ++ 10 ∷ [])
+unfolding script_on_literals next run text line digits encode_with picture presents dirtied runs run_end dirt_of frame_of point_tree rect_tree move_tree info_tree frame_tree row_digits surface_tree refusal_tree log_refusal_tree open_refusal_tree dup_refusal_tree answer_tree
+timeout = refl
+
+-- a fill two rows high is listed run by run
+two_rows : replayed (codes "{\"modes\":[[4,3,1]],\"capacity\":100,\"privileged\":[],\"clients\":[1],\"steps\":[{\"client\":1,\"call\":\"duplicate\"},{\"present\":[{\"fill\":[0,0,2,2],\"colour\":\"00ff00\"}]},{\"client\":1,\"call\":\"acquire\"}]}")
+    ≡ Some (codes "{\"entry\":1,\"slot\":0}" ++ 10 ∷ []
+    ++ codes "{\"entry\":2}" ++ 10 ∷ []
+    ++ codes "{\"dirty\":[[0,0,2,1],[0,1,2,2]],\"frame\":{\"accumulated\":1,\"coalesced\":false,\"meta\":32,\"mouse\":0,\"pointer\":[0,0],\"present\":2,\"protected\":false,\"shape\":0,\"visible\":false},\"moves\":[]}" ++ 10 ∷ [])
+unfolding script_on_literals next run text line digits encode_with picture presents dirtied runs run_end dirt_of frame_of point_tree rect_tree move_tree info_tree frame_tree row_digits surface_tree refusal_tree log_refusal_tree open_refusal_tree dup_refusal_tree answer_tree
+two_rows = refl
+
+-- a frame is held once, and released once
+held_or_not : replayed (codes "{\"modes\":[[4,3,1]],\"capacity\":100,\"privileged\":[],\"clients\":[1],\"steps\":[{\"client\":1,\"call\":\"duplicate\"},{\"present\":[{\"fill\":[1,1,3,2],\"colour\":\"ff0000\"}]},{\"client\":1,\"call\":\"acquire\"},{\"client\":1,\"call\":\"acquire\"},{\"client\":1,\"call\":\"release\"},{\"client\":1,\"call\":\"release\"}]}")
+    ≡ Some (codes "{\"entry\":1,\"slot\":0}" ++ 10 ∷ []
+    ++ codes "{\"entry\":2}" ++ 10 ∷ []
+    ++ codes "{\"dirty\":[[1,1,3,2]],\"frame\":{\"accumulated\":1,\"coalesced\":false,\"meta\":16,\"mouse\":0,\"pointer\":[0,0],\"present\":2,\"protected\":false,\"shape\":0,\"visible\":false},\"moves\":[]}" ++ 10 ∷ []
+    ++ codes "{\"code\":\"887a0001\",\"refused\":\"InvalidCall\"}" ++ 10 ∷ []
+    ++ codes "{\"released\":true}" ++ 10 ∷ []
+    ++ codes "{\"code\":\"887a0001\",\"refused\":\"InvalidCall\"}" ++ 10 ∷ [])
+unfolding script_on_literals next run text line digits encode_with picture presents dirtied runs run_end dirt_of frame_of point_tree rect_tree move_tree info_tree frame_tree row_digits surface_tree refusal_tree log_refusal_tree open_refusal_tree dup_refusal_tree answer_tree
+held_or_not = refl
+
+-- a present of no operations is news, with no dirt
+no_operations : replayed (codes "{\"modes\":[[4,3,1]],\"capacity\":100,\"privileged\":[],\"clients\":[1],\"steps\":[{\"client\":1,\"call\":\"duplicate\"},{\"present\":[]},{\"client\":1,\"call\":\"acquire\"}]}")
+    ≡ Some (codes "{\"entry\":1,\"slot\":0}" ++ 10 ∷ []
+    ++ codes "{\"entry\":2}" ++ 10 ∷ []
+    ++ codes "{\"dirty\":[],\"frame\":{\"accumulated\":1,\"coalesced\":false,\"meta\":0,\"mouse\":0,\"pointer\":[0,0],\"present\":2,\"protected\":false,\"shape\":0,\"visible\":false},\"moves\":[]}" ++ 10 ∷ [])
+unfolding script_on_literals next run text line digits encode_with picture presents dirtied runs run_end dirt_of frame_of point_tree rect_tree move_tree info_tree frame_tree row_digits surface_tree refusal_tree log_refusal_tree open_refusal_tree dup_refusal_tree answer_tree
+no_operations = refl
