@@ -3,6 +3,7 @@
 
 RT = rt
 FIRST = examples/first
+MOVES = examples/moves
 
 # Runs the first example. Standard output has the answer lines alone.
 demo:
@@ -15,14 +16,16 @@ demo:
 	fi
 
 # Proves every crate, lowest first, and leaves the program as bin/ddup once its answers to the
-# first example are the right ones.
+# examples are the right ones.
 build:
 	$(RT) all check
 	mkdir -p bin
 	cd crates/ddup && $(RT) run -- replay < ../../$(FIRST)/script.json > ../../bin/answers.txt
 	cmp bin/answers.txt $(FIRST)/answers.txt
-	rm bin/answers.txt
 	cp crates/ddup/out/ddup bin/ddup
+	bin/ddup replay < $(MOVES)/script.json > bin/answers.txt
+	cmp bin/answers.txt $(MOVES)/answers.txt
+	rm bin/answers.txt
 
 # Proves every crate from nothing, tries the wrong bodies, and runs the tests and the program.
 test:

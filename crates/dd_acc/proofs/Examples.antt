@@ -1,17 +1,23 @@
--- Small intervals on a surface of 4 by 3 points: where points come from, what is dirty, and what is rebuilt.
-use Rattle.std.proofs.Common.{◌≡◌, ℕ, pos, List, [], ◌∷◌, refl}
+-- Small intervals on a surface of 4 by 3 points: where points come from, what is dirty, what is told as a move, and what
+-- is rebuilt.
+use Rattle.std.proofs.Common.{◌≡◌, ℕ, true, false, pos, List, [], ◌∷◌, length, replicate, refl}
 use Rattle.dd_geom.specs.declared.rect.Rect.{Rect}
-use Rattle.dd_geom.specs.Grid.{Grid}
+use Rattle.dd_geom.specs.declared.rect.Move.{Move}
+use Rattle.dd_geom.specs.Grid.{Grid, rows}
 use Rattle.dd_grid.specs.Drawing.{black, blank, seen}
 use Rattle.dd_bits.specs.Runs.{run_end, runs}
 use Rattle.dd_ops.specs.declared.operations.Op.{Op}
-use Rattle.dd_ops.specs.declared.operations.Op.TheVariants.{Fill}
+use Rattle.dd_ops.specs.declared.operations.Op.TheVariants.{Fill, Blit, Cover, Scroll}
 use Rattle.dd_ops.specs.Operations.{drawn}
-use Rattle.dd_acc.specs.Effects.{over, fresh, kept, origin, dirtied, dirt}
-use Rattle.dd_acc.specs.Rebuild.{rebuild}
+use Rattle.std.specs.List.{fold}
+use Rattle.dd_acc.specs.Effects.{over, shifted, fresh, kept, origin, dirtied, dirt, moves, any_reaches}
+use Rattle.dd_acc.specs.Rebuild.{all_moved, rebuild}
 
 abbrev rect : ℕ → ℕ → ℕ → ℕ → Rect
 rect l t r b = record { left = pos l; top = pos t; right = pos r; bottom = pos b }
+
+abbrev from : ℕ → ℕ → Rect → Move
+from x y dest = record { source = record { x = pos x; y = pos y }; dest = dest }
 
 -- a red fill, and one of another colour that overlaps it
 abbrev red : List Op
@@ -22,26 +28,88 @@ corner = Fill (rect 2 0 4 2) 7 ∷ []
 
 -- no present, and a present that draws nothing
 no_dirt : runs (dirt 4 3 []) ≡ []
-unfolding dirtied runs
+unfolding dirt dirtied runs
 no_dirt = refl
 
 empty_present : runs (dirt 4 3 ([] ∷ [])) ≡ []
-unfolding dirtied runs run_end
+unfolding dirt dirtied runs run_end
 empty_present = refl
 
 one_present : runs (dirt 4 3 (red ∷ [])) ≡ rect 1 1 3 2 ∷ []
-unfolding dirtied runs run_end
+unfolding dirt dirtied runs run_end
 one_present = refl
 
 -- two presents that overlap
 two_presents : runs (dirt 4 3 (red ∷ corner ∷ [])) ≡ rect 2 0 4 1 ∷ rect 1 1 4 2 ∷ []
-unfolding dirtied runs run_end
+unfolding dirt dirtied runs run_end
 two_presents = refl
 
 -- what two presents dirty is dirty after one present of both
 one_of_both : runs (dirt 4 3 ((Fill (rect 1 1 3 2) 16711680 ∷ Fill (rect 2 0 4 2) 7 ∷ []) ∷ [])) ≡ rect 2 0 4 1 ∷ rect 1 1 4 2 ∷ []
-unfolding dirtied runs run_end
+unfolding dirt dirtied runs run_end
 one_of_both = refl
+
+-- an image and a cover are drawn like a fill
+image_and_cover : runs (dirt 4 3 ((Blit (rect 0 0 1 1) (1 ∷ []) ∷ Cover (rect 2 2 4 3) (1 ∷ 2 ∷ []) ∷ []) ∷ [])) ≡ rect 0 0 1 1 ∷ rect 2 2 4 3 ∷ []
+unfolding dirt dirtied runs run_end
+image_and_cover = refl
+
+-- a scroll of what is clean is a move and leaves no dirt
+abbrev alone : List (List Op)
+alone = (Scroll (from 0 0 (rect 2 0 4 1)) ∷ []) ∷ []
+
+alone_moves : moves alone ≡ from 0 0 (rect 2 0 4 1) ∷ []
+unfolding moves
+alone_moves = refl
+
+alone_dirt : runs (dirt 4 3 alone) ≡ []
+unfolding dirt dirtied runs run_end
+alone_dirt = refl
+
+-- a scroll carries the dirt of its source along, also where it overlaps itself
+abbrev carried : List (List Op)
+carried = (Fill (rect 0 0 2 1) 16711680 ∷ []) ∷ (Scroll (from 0 0 (rect 1 0 3 1)) ∷ []) ∷ []
+
+carried_moves : moves carried ≡ from 0 0 (rect 1 0 3 1) ∷ []
+unfolding moves
+carried_moves = refl
+
+carried_dirt : runs (dirt 4 3 carried) ≡ rect 0 0 3 1 ∷ []
+unfolding dirt dirtied runs run_end
+carried_dirt = refl
+
+-- no dirt stays under a destination whose source is clean
+abbrev covered_up : List (List Op)
+covered_up = (Fill (rect 2 0 3 1) 16711680 ∷ []) ∷ (Scroll (from 0 0 (rect 2 0 3 1)) ∷ []) ∷ []
+
+covered_up_dirt : runs (dirt 4 3 covered_up) ≡ []
+unfolding dirt dirtied runs run_end
+covered_up_dirt = refl
+
+-- seventeen presents of one scroll each: sixteen moves, and the last is a draw of its destination
+abbrev down : Op
+down = Scroll (from 0 0 (rect 0 1 4 2))
+
+abbrev seventeen : List (List Op)
+seventeen = replicate 17 (down ∷ [])
+
+sixteen_moves : moves seventeen ≡ replicate 16 (from 0 0 (rect 0 1 4 2))
+unfolding moves
+sixteen_moves = refl
+
+seventeenth_is_dirt : runs (dirt 4 3 seventeen) ≡ rect 0 1 4 2 ∷ []
+unfolding dirt dirtied runs run_end
+seventeenth_is_dirt = refl
+
+-- all in one present they count alike
+seventeen_at_once : moves (replicate 17 down ∷ []) ≡ replicate 16 (from 0 0 (rect 0 1 4 2))
+unfolding moves
+seventeen_at_once = refl
+
+-- what is drawn between scrolls counts for none
+fills_between : length (moves ((replicate 9 down) ∷ red ∷ (Fill (rect 0 0 1 1) 7 ∷ replicate 9 down) ∷ [])) ≡ 16
+unfolding moves
+fills_between = refl
 
 -- a point that either rectangle draws, and points that both leave where they are
 first_draws : origin (over (rect 1 1 3 2) ∷ over (rect 2 0 4 2) ∷ []) 1 1 ≡ fresh
@@ -56,6 +124,17 @@ left_edge_stays = refl
 bottom_stays : origin (over (rect 1 1 3 2) ∷ over (rect 2 0 4 2) ∷ []) 2 2 ≡ kept 2 2
 bottom_stays = refl
 
+-- through a shift: a kept point's source, and a drawn point that was shifted
+shifted_kept : origin (shifted (from 0 1 (rect 2 0 4 1)) ∷ []) 3 0 ≡ kept 1 1
+shifted_kept = refl
+
+shifted_drawn : origin (over (rect 1 1 3 2) ∷ shifted (from 0 1 (rect 2 0 4 1)) ∷ []) 3 0 ≡ fresh
+shifted_drawn = refl
+
+-- two shifts, the later one followed back first
+twice_shifted : origin (shifted (from 0 0 (rect 1 0 2 1)) ∷ shifted (from 1 0 (rect 3 2 4 3)) ∷ []) 3 2 ≡ kept 0 0
+twice_shifted = refl
+
 -- a black surface, with the dirty points copied from the newer one, is the newer one
 abbrev newer : Grid ℕ
 newer = seen (drawn (black 4 3) red)
@@ -68,9 +147,40 @@ abbrev newest : Grid ℕ
 newest = seen (drawn (drawn (black 4 3) red) corner)
 
 rebuilt_both : rebuild (blank 4 3) [] (runs (dirt 4 3 (red ∷ corner ∷ []))) newest ≡ newest
-unfolding dirtied runs run_end
+unfolding dirt dirtied runs run_end
 rebuilt_both = refl
 
 -- without the rectangle it stays black
 not_rebuilt : rebuild (blank 4 3) [] [] newer ≡ blank 4 3
 not_rebuilt = refl
+
+-- by a move and its dirt
+abbrev scrolled_once : Grid ℕ
+scrolled_once = seen (fold drawn (black 4 3) carried)
+
+rebuilt_scrolled : rebuild (blank 4 3) (moves carried) (runs (dirt 4 3 carried)) scrolled_once ≡ scrolled_once
+unfolding moves dirt dirtied runs run_end
+rebuilt_scrolled = refl
+
+-- two moves of one frame are drawn in order: the other way round they give another surface
+abbrev red_seen : Grid ℕ
+red_seen = seen (drawn (black 4 3) (Fill (rect 0 0 1 1) 16711680 ∷ []))
+
+abbrev first_move : Move
+first_move = from 0 0 (rect 1 0 2 1)
+
+abbrev second_move : Move
+second_move = from 1 0 (rect 3 2 4 3)
+
+in_order : rows (all_moved red_seen (first_move ∷ second_move ∷ [])) ≡ (16711680 ∷ 16711680 ∷ 0 ∷ 0 ∷ []) ∷ (0 ∷ 0 ∷ 0 ∷ 0 ∷ []) ∷ (0 ∷ 0 ∷ 0 ∷ 16711680 ∷ []) ∷ []
+in_order = refl
+
+newest_first : rows (all_moved red_seen (second_move ∷ first_move ∷ [])) ≡ (16711680 ∷ 16711680 ∷ 0 ∷ 0 ∷ []) ∷ (0 ∷ 0 ∷ 0 ∷ 0 ∷ []) ∷ (0 ∷ 0 ∷ 0 ∷ 0 ∷ []) ∷ []
+newest_first = refl
+
+-- dirt is where something was drawn or scrolled to, and nowhere else
+in_reach : any_reaches carried 2 0 ≡ true
+in_reach = refl
+
+out_of_reach : any_reaches carried 3 0 ≡ false
+out_of_reach = refl

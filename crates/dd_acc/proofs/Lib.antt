@@ -1,4 +1,6 @@
+pub mod Counting
 pub mod Examples
-pub mod Origins
+pub mod Honest
 pub mod Rebuilding
+pub mod Origins
 pub mod Nowhere

@@ -1,104 +1,86 @@
--- A point that nothing touched is as it was, so a surface is rebuilt by copying the dirty points.
-use Rattle.std.proofs.Common.{◌≡◌, ℕ, ◌<◌, Bool, true, false, ◌||◌, List, [], ◌∷◌, refl, sym, ap, ◌∙◌, if◌then◌else◌, inl, inr, ⊎_elim, ◌⊎◌}
-use Rattle.std.specs.List.{fold}
-use Rattle.std.proofs.lemmas.Bool.{cond-false, cases_lt}
+-- A surface is rebuilt from the one before: its moves take each point that was kept to its place, and the rest is copied.
+use Rattle.std.proofs.Common.{◌≡◌, ℕ, ◌+◌, ◌<◌, Bool, true, false, cond, nat_lt, List, [], ◌∷◌, refl, sym, ap, ◌∙◌, if◌then◌else◌, subst}
+use Rattle.std.specs.List.{list_all, flat_map, fold}
+use Rattle.std.proofs.lemmas.Bool.{and_parts}
 use Rattle.dd_geom.specs.declared.rect.Rect.{Rect}
-use Rattle.dd_geom.specs.Rect.{has}
-use Rattle.dd_geom.specs.Grid.{Grid, grid, value_at}
-use Rattle.dd_geom.proofs.GridLemmas.{grid_from_agree, value_at-grid, value_at-right, value_at-below}
-use Rattle.dd_grid.specs.Cell.{Cell, plain, seen_cell}
-use Rattle.dd_grid.specs.Drawing.{cell_at, filled, seen}
-use Rattle.dd_bits.specs.Area.{is_in, nowhere}
+use Rattle.dd_geom.specs.declared.rect.Move.{Move}
+use Rattle.dd_geom.specs.Rect.{has, is_move_inside, source_x, source_y}
+use Rattle.dd_geom.specs.Grid.{Grid, grid, value_at, scrolled}
+use Rattle.dd_geom.proofs.GridLemmas.{grid_from_agree, value_at-grid}
+use Rattle.dd_grid.specs.Cell.{Cell, plain, covered_cell, seen_cell}
+use Rattle.dd_grid.specs.Drawing.{cell_at, moved_cells, moved, image_at, seen}
 use Rattle.dd_ops.specs.declared.operations.Op.{Op}
-use Rattle.dd_ops.specs.declared.operations.Op.TheVariants.{Fill}
-use Rattle.dd_ops.specs.Operations.{drawn}
-use Rattle.dd_acc.specs.Effects.{Effect, over, effects, Origin, fresh, kept, before, back, origin, is_touched, touched, dirtied, dirt}
-use Rattle.dd_acc.specs.Rebuild.{any_has, copied}
-use Rattle.dd_acc.proofs.Origins.{touched-touched, width-dirtied, height-dirtied}
+use Rattle.dd_ops.specs.declared.operations.Op.TheVariants.{Fill, Blit, Cover, Scroll}
+use Rattle.dd_ops.specs.Operations.{fits, all_fit, drawn_by, drawn}
+use Rattle.dd_acc.specs.declared.interval.TheConstants.{MAX_MOVES}
+use Rattle.dd_acc.specs.Effects.{Effect, over, shifted, effect, effects, scroll_in, scrolls, each_effects, all_effects, moves_in, moves, Origin, fresh, kept, before, back, origin, is_touched, drawn_afresh, presents_fit}
+use Rattle.dd_acc.specs.Rebuild.{any_has, all_moved, Rebuilds}
+use Rattle.dd_acc.proofs.Origins.{effect_fits, Lies, Lies-origin, origin-append}
+use Rattle.dd_acc.proofs.Counting.{effects-fit, each-fit}
 
-drawn_or_kept : (b : Bool) (x y : ℕ) → (let o : Origin = (if b then fresh else kept x y) in (o ≡ fresh) ⊎ (o ≡ kept x y))
-drawn_or_kept true x y = inl refl
-drawn_or_kept false x y = inr refl
+-- a value comes from a grid's point, unless it was drawn
+abbrev Comes : {A : Type 0} → A → Grid A → Origin → A → Type 0
+Comes d g fresh v = Unit {0}
+Comes d g (kept x y) v = v ≡ value_at d g x y
 
-back_stays : (e : Effect) (o : Origin) (x y : ℕ) → (o ≡ fresh) ⊎ (o ≡ kept x y) → (back o (before e) ≡ fresh) ⊎ (back o (before e) ≡ kept x y)
-back_stays e o x y (inl f) = inl (ap (λ q. back q (before e)) f)
-back_stays (over r) o x y (inr k) = rw k (drawn_or_kept (has r x y) x y)
+comes_if : {A : Type 0} (d : A) (g : Grid A) (b : Bool) (o p : Origin) (u v : A) → (b ≡ true → Comes d g o u) → (b ≡ false → Comes d g p v) → Comes d g (cond b o p) (cond b u v)
+comes_if d g true o p u v e f = e refl
+comes_if d g false o p u v e f = f refl
 
-stays : (es : List Effect) (x y : ℕ) → (origin es x y ≡ fresh) ⊎ (origin es x y ≡ kept x y)
-stays [] x y = inr refl
-stays (e ∷ es) x y = back_stays e (origin es x y) x y (stays es x y)
+-- one where the test decides what value it is
+at_if : {A : Type 0} (d : A) (g : Grid A) (o : Origin) (u v : A) → u ≡ v → Comes d g o v → Comes d g o u
+at_if d g fresh u v e c = tt
+at_if d g (kept x y) u v e c = e ∙ c
 
--- what isn't touched wasn't in the set before
-untouched_by : (area : ℕ → ℕ → Bool) (o : Origin) (x y : ℕ) → (o ≡ fresh) ⊎ (o ≡ kept x y) → is_touched area o ≡ false → area x y ≡ false
-untouched_by area o x y (inl f) h = let t : true ≡ false = sym (ap (is_touched area) f) ∙ h in cc
-untouched_by area o x y (inr k) h = sym (ap (is_touched area) k) ∙ h
+-- a point of a scrolled grid
+comes-scrolled : {A : Type 0} (d : A) (g : Grid A) (m : Move) (x y : ℕ) → x < g.width → y < g.height → Comes d g (before (shifted m) x y) (value_at d (scrolled d g m) x y)
+comes-scrolled d g m x y across down =
+    at_if d g (before (shifted m) x y) _ _ (value_at-grid d g.width g.height (λ a b. cond (has m.dest a b) (value_at d g (source_x m a) (source_y m b)) (value_at d g a b)) x y across down)
+    (comes_if d g (has m.dest x y) (kept (source_x m x) (source_y m y)) (kept x y) _ _ (λ _. refl) (λ _. refl))
 
-pub untouched_before : (area : ℕ → ℕ → Bool) (es : List Effect) (x y : ℕ) → touched area es x y ≡ false → area x y ≡ false
-untouched_before area es x y h = untouched_by area (origin es x y) x y (stays es x y) h
+-- a point of a grid drawn over in a rectangle
+comes-drawn : {A : Type 0} (d : A) (g : Grid A) (r : Rect) (f : ℕ → ℕ → A) (x y : ℕ) → x < g.width → y < g.height
+    → Comes d g (before (over r) x y) (value_at d (grid g.width g.height (λ a b. cond (has r a b) (f a b) (value_at d g a b))) x y)
+comes-drawn d g r f x y across down =
+    at_if d g (before (over r) x y) _ _ (value_at-grid d g.width g.height (λ a b. cond (has r a b) (f a b) (value_at d g a b)) x y across down)
+    (comes_if d g (has r x y) fresh (kept x y) _ _ (λ _. tt) (λ _. refl))
 
--- the first effect's rectangle may as well have been in the set
-alike : (f g : ℕ → ℕ → Bool) (o : Origin) → ((x y : ℕ) → f x y ≡ g x y) → is_touched f o ≡ is_touched g o
-alike f g fresh e = refl
-alike f g (kept x y) e = e x y
+-- the same for one operation on a picture
+comes_scroll : (p : Grid Cell) (m : Move) (b : Bool) (x y : ℕ) → x < p.width → y < p.height → Comes (plain 0) p (before (cond b (shifted m) (over m.dest)) x y) (cell_at (moved_cells p m) x y)
+comes_scroll p m true x y across down = comes-scrolled (plain 0) p m x y across down
+comes_scroll p m false x y across down = comes-drawn (plain 0) p m.dest (λ a b. cell_at p (source_x m a) (source_y m b)) x y across down
 
-one_over : (area : ℕ → ℕ → Bool) (b : Bool) (x y : ℕ) → is_touched area (if b then fresh else kept x y) ≡ (b || area x y)
-one_over area true x y = refl
-one_over area false x y = refl
+comes-op : (n : ℕ) (op : Op) (p : Grid Cell) (x y : ℕ) → x < p.width → y < p.height → Comes (plain 0) p (before (effect n op) x y) (cell_at (drawn_by p op) x y)
+comes-op n (Fill r c) p x y across down = comes-drawn (plain 0) p r (λ a b. plain c) x y across down
+comes-op n (Blit r cs) p x y across down = comes-drawn (plain 0) p r (λ a b. plain (image_at r cs a b)) x y across down
+comes-op n (Cover r cs) p x y across down = comes-drawn (plain 0) p r (λ a b. covered_cell (image_at r cs a b)) x y across down
+comes-op n (Scroll m) p x y across down = comes_scroll p m (nat_lt n MAX_MOVES) x y across down
 
-touched-front : (area : ℕ → ℕ → Bool) (r : Rect) (es : List Effect) (x y : ℕ) → touched area (over r ∷ es) x y ≡ touched (λ a b. has r a b || area a b) es x y
-touched-front area r es x y =
-    sym (touched-touched area (over r ∷ []) es x y)
-    ∙ alike (touched area (over r ∷ [])) (λ a b. has r a b || area a b) (origin es x y) (λ a b. one_over area (has r a b) a b)
+-- goes on backward: a value that comes from a point comes from where that point comes from
+comes-back : {A : Type 0} (d : A) (g next : Grid A) (e : Effect) (o : Origin) (v : A) → ((x y : ℕ) → x < next.width → y < next.height → Comes d g (before e x y) (value_at d next x y))
+    → Lies next.width next.height o → Comes d next o v → Comes d g (back o (before e)) v
+comes-back d g next e fresh v step l c = tt
+comes-back d g next e (kept x y) v step l c = at_if d g (before e x y) v _ c (step x y l.0 l.1)
 
-or_left : (a b : Bool) → (a || b) ≡ false → a ≡ false
-or_left true b h = h
-or_left false b h = refl
+width-drawn_by : (op : Op) (p : Grid Cell) → (drawn_by p op).width ≡ p.width
+width-drawn_by (Fill r c) p = refl
+width-drawn_by (Blit r c) p = refl
+width-drawn_by (Cover r c) p = refl
+width-drawn_by (Scroll m) p = refl
 
--- a grid of a grid's own values at a point has that value there
-module _ {A : Type 0} where
-  pub value_at-same : (d : A) (g : Grid A) (f : ℕ → ℕ → A) (x y : ℕ) → f x y ≡ value_at d g x y → value_at d (grid g.width g.height f) x y ≡ value_at d g x y
-  value_at-same d g f x y e = ⊎_elim
-      (λ across. ⊎_elim
-      (λ down. value_at-grid d g.width g.height f x y across down ∙ e)
-      (λ low. value_at-below d (grid g.width g.height f) x y low ∙ sym (value_at-below d g x y low))
-      (cases_lt y g.height))
-      (λ right. value_at-right d (grid g.width g.height f) x y right ∙ sym (value_at-right d g x y right))
-      (cases_lt x g.width)
+height-drawn_by : (op : Op) (p : Grid Cell) → (drawn_by p op).height ≡ p.height
+height-drawn_by (Fill r c) p = refl
+height-drawn_by (Blit r c) p = refl
+height-drawn_by (Cover r c) p = refl
+height-drawn_by (Scroll m) p = refl
 
-cell_at-filled : (p : Grid Cell) (r : Rect) (c x y : ℕ) → has r x y ≡ false → cell_at (filled p r c) x y ≡ cell_at p x y
-cell_at-filled p r c x y out = value_at-same (plain 0) p (λ a b. if has r a b then plain c else cell_at p a b) x y (cond-false (has r x y) (plain c) (cell_at p x y) out)
-
--- a point that the operations don't touch keeps its cell
-pub untouched_cell : (ops : List Op) (p : Grid Cell) (area : ℕ → ℕ → Bool) (x y : ℕ) → touched area (effects ops) x y ≡ false → cell_at (drawn p ops) x y ≡ cell_at p x y
-untouched_cell [] p area x y h = refl
-untouched_cell (Fill r c ∷ ops) p area x y h =
-    let grown : ℕ → ℕ → Bool = λ a b. has r a b || area a b in
-    let rest : touched grown (effects ops) x y ≡ false = sym (touched-front area r (effects ops) x y) ∙ h in
-    untouched_cell ops (filled p r c) grown x y rest
-    ∙ cell_at-filled p r c x y (or_left (has r x y) (area x y) (untouched_before grown (effects ops) x y rest))
-
--- a point that isn't dirty after some presents wasn't dirty before, and keeps its cell
-is_in-dirtied : (g : Grid Bool) (ops : List Op) (x y : ℕ) → x < g.width → y < g.height → is_in (dirtied g ops) x y ≡ touched (is_in g) (effects ops) x y
-unfolding dirtied
-is_in-dirtied g ops x y across down = value_at-grid false g.width g.height (touched (is_in g) (effects ops)) x y across down
-
-pub not_dirty : (ps : List (List Op)) (g : Grid Bool) (p : Grid Cell) (x y : ℕ) → x < g.width → y < g.height → is_in (fold dirtied g ps) x y ≡ false → (is_in g x y ≡ false) × (cell_at (fold drawn p ps) x y ≡ cell_at p x y)
-not_dirty [] g p x y across down h = (h, refl)
-not_dirty (ops ∷ ps) g p x y across down h =
-    let wide : x < (dirtied g ops).width = rw (width-dirtied g ops) across in
-    let high : y < (dirtied g ops).height = rw (height-dirtied g ops) down in
-    let r = not_dirty ps (dirtied g ops) (drawn p ops) x y wide high h in
-    let free : touched (is_in g) (effects ops) x y ≡ false = sym (is_in-dirtied g ops x y across down) ∙ r.0 in
-    (untouched_before (is_in g) (effects ops) x y free, r.1 ∙ untouched_cell ops p (is_in g) x y free)
-
--- drawing keeps the size
 pub width-drawn : (ops : List Op) (p : Grid Cell) → (drawn p ops).width ≡ p.width
 width-drawn [] p = refl
-width-drawn (Fill r c ∷ ops) p = width-drawn ops (filled p r c)
+width-drawn (op ∷ ops) p = width-drawn ops (drawn_by p op) ∙ width-drawn_by op p
 
 pub height-drawn : (ops : List Op) (p : Grid Cell) → (drawn p ops).height ≡ p.height
 height-drawn [] p = refl
-height-drawn (Fill r c ∷ ops) p = height-drawn ops (filled p r c)
+height-drawn (op ∷ ops) p = height-drawn ops (drawn_by p op) ∙ height-drawn_by op p
 
 pub width-presents : (ps : List (List Op)) (p : Grid Cell) → (fold drawn p ps).width ≡ p.width
 width-presents [] p = refl
@@ -108,27 +90,111 @@ pub height-presents : (ps : List (List Op)) (p : Grid Cell) → (fold drawn p ps
 height-presents [] p = refl
 height-presents (ops ∷ ps) p = height-presents ps (drawn p ops) ∙ height-drawn ops p
 
--- The surface before, with the dirty points copied from the one after, is the one after.
-choose : (b : Bool) (before after : ℕ) → (b ≡ false → after ≡ before) → (if b then after else before) ≡ after
+-- each point of the picture after a present comes from its origin
+comes-ops : (n : ℕ) (ops : List Op) (p : Grid Cell) (x y : ℕ) → all_fit p.width p.height ops ≡ true → x < p.width → y < p.height
+    → Comes (plain 0) p (origin (effects n ops) x y) (cell_at (drawn p ops) x y)
+comes-ops n [] p x y fit across down = refl
+comes-ops n (op ∷ ops) p x y fit across down =
+    let next : Grid Cell = drawn_by p op in
+    let later = (and_parts (fits p.width p.height op) (all_fit p.width p.height ops) fit).1 in
+    let wide = width-drawn_by op p in
+    let high = height-drawn_by op p in
+    let more = n + scroll_in op in
+    let fit_next : all_fit next.width next.height ops ≡ true = rw (wide, high) later in
+    let across_next : x < next.width = rw wide across in
+    let down_next : y < next.height = rw high down in
+    comes-back (plain 0) p next (effect n op) (origin (effects more ops) x y) (cell_at (drawn next ops) x y)
+    (λ a b u v. comes-op n op p a b (rw (← wide) u) (rw (← high) v))
+    (Lies-origin next.width next.height (effects more ops) x y (effects-fit next.width next.height more ops fit_next) across_next down_next)
+    (comes-ops more ops next x y fit_next across_next down_next)
+
+-- and after all of them: going back through the later presents, and then through the first
+comes-joined : {A : Type 0} (d : A) (g next : Grid A) (es : List Effect) (o : Origin) (v : A) → ((x y : ℕ) → x < next.width → y < next.height → Comes d g (origin es x y) (value_at d next x y))
+    → Lies next.width next.height o → Comes d next o v → Comes d g (back o (origin es)) v
+comes-joined d g next es fresh v step l c = tt
+comes-joined d g next es (kept x y) v step l c = at_if d g (origin es x y) v _ c (step x y l.0 l.1)
+
+comes-presents : (n : ℕ) (ps : List (List Op)) (p : Grid Cell) (x y : ℕ) → presents_fit p.width p.height ps ≡ true → x < p.width → y < p.height
+    → Comes (plain 0) p (origin (flat_map (λ es. es) (each_effects n ps)) x y) (cell_at (fold drawn p ps) x y)
+comes-presents n [] p x y fit across down = refl
+comes-presents n (ops ∷ ps) p x y fit across down =
+    let next : Grid Cell = drawn p ops in
+    let both = and_parts (all_fit p.width p.height ops) (presents_fit p.width p.height ps) fit in
+    let wide = width-drawn ops p in
+    let high = height-drawn ops p in
+    let more = n + scrolls ops in
+    let rest : List Effect = flat_map (λ es. es) (each_effects more ps) in
+    let fit_next : presents_fit next.width next.height ps ≡ true = rw (wide, high) both.1 in
+    let across_next : x < next.width = rw wide across in
+    let down_next : y < next.height = rw high down in
+    subst (λ (o : Origin). Comes (plain 0) p o (cell_at (fold drawn next ps) x y)) (sym (origin-append (effects n ops) rest x y))
+    (comes-joined (plain 0) p next (effects n ops) (origin rest x y) (cell_at (fold drawn next ps) x y)
+    (λ a b u v. comes-ops n ops p a b both.0 (rw (← wide) u) (rw (← high) v))
+    (Lies-origin next.width next.height rest x y (each-fit next.width next.height more ps fit_next) across_next down_next)
+    (comes-presents more ps next x y fit_next across_next down_next))
+
+-- the moves alone take each point that was kept to its place
+pub width-moved : (ms : List Move) (s : Grid ℕ) → (all_moved s ms).width ≡ s.width
+width-moved [] s = refl
+width-moved (m ∷ ms) s = width-moved ms (moved s m)
+
+pub height-moved : (ms : List Move) (s : Grid ℕ) → (all_moved s ms).height ≡ s.height
+height-moved [] s = refl
+height-moved (m ∷ ms) s = height-moved ms (moved s m)
+
+comes-over : (s : Grid ℕ) (b : Bool) (x y : ℕ) → Comes 0 s (cond b fresh (kept x y)) (value_at 0 s x y)
+comes-over s true x y = tt
+comes-over s false x y = refl
+
+comes-moves : (es : List Effect) (s : Grid ℕ) (x y : ℕ) → list_all (effect_fits s.width s.height) es ≡ true → x < s.width → y < s.height
+    → Comes 0 s (origin es x y) (value_at 0 (all_moved s (moves_in es)) x y)
+comes-moves [] s x y fit across down = refl
+comes-moves (over r ∷ es) s x y fit across down =
+    comes-back 0 s s (over r) (origin es x y) _ (λ a b u v. comes-over s (has r a b) a b)
+    (Lies-origin s.width s.height es x y fit across down) (comes-moves es s x y fit across down)
+comes-moves (shifted m ∷ es) s x y fit across down =
+    let later = (and_parts (is_move_inside m s.width s.height) (list_all (effect_fits s.width s.height) es) fit).1 in
+    comes-back 0 s (moved s m) (shifted m) (origin es x y) _ (λ a b u v. comes-scrolled 0 s m a b u v)
+    (Lies-origin s.width s.height es x y later across down) (comes-moves es (moved s m) x y later across down)
+
+-- what is moved and what is seen come from one place
+value_at-seen : (p : Grid Cell) (x y : ℕ) → x < p.width → y < p.height → value_at 0 (seen p) x y ≡ seen_cell (cell_at p x y)
+value_at-seen p x y across down = value_at-grid 0 p.width p.height (λ a b. seen_cell (cell_at p a b)) x y across down
+
+same_place : (p : Grid Cell) (o : Origin) (v : ℕ) (c : Cell) → is_touched (λ a b. false) o ≡ false → Lies p.width p.height o → Comes 0 (seen p) o v → Comes (plain 0) p o c → v ≡ seen_cell c
+same_place p fresh v c t l e f = absurd (let u : true ≡ false = t in cc)
+same_place p (kept x y) v c t l e f = e ∙ (value_at-seen p x y l.0 l.1 ∙ ap seen_cell (sym f))
+
+untouched_unless : (b c : Bool) → (b ≡ true → c ≡ true) → c ≡ false → b ≡ false
+untouched_unless true c e f = let u : true ≡ false = sym (e refl) ∙ f in u
+untouched_unless false c e f = refl
+
+choose : (b : Bool) (before after : ℕ) → (b ≡ false → before ≡ after) → (if b then after else before) ≡ after
 choose true before after same = refl
-choose false before after same = sym (same refl)
+choose false before after same = same refl
 
-copied_is : (p q : Grid Cell) (rects : List Rect) → q.width ≡ p.width → q.height ≡ p.height
-    → ((x y : ℕ) → x < p.width → y < p.height → any_has rects x y ≡ false → cell_at q x y ≡ cell_at p x y)
-    → copied (seen p) rects (seen q) ≡ grid p.width p.height (λ x y. seen_cell (cell_at q x y))
-copied_is p q rects wide high same = grid_from_agree p.width p.height _ _ (λ x y across down.
-    let at_q : value_at 0 (seen q) x y ≡ seen_cell (cell_at q x y) = value_at-grid 0 q.width q.height (λ a b. seen_cell (cell_at q a b)) x y (rw wide across) (rw high down) in
-    let at_p : value_at 0 (seen p) x y ≡ seen_cell (cell_at p x y) = value_at-grid 0 p.width p.height (λ a b. seen_cell (cell_at p a b)) x y across down in
-    choose (any_has rects x y) (value_at 0 (seen p) x y) (value_at 0 (seen q) x y) (λ out. at_q ∙ ap seen_cell (same x y across down out) ∙ sym at_p)
-    ∙ at_q)
-
-pub rebuilt : (p : Grid Cell) (ps : List (List Op)) (rects : List Rect)
-    → ((x y : ℕ) → any_has rects x y ≡ is_in (dirt p.width p.height ps) x y)
-    → copied (seen p) rects (seen (fold drawn p ps)) ≡ seen (fold drawn p ps)
-rebuilt p ps rects cover =
+pub rebuilds : Rebuilds
+unfolding moves
+rebuilds p ps rects fit has_drawn =
     let q : Grid Cell = fold drawn p ps in
+    let es : List Effect = all_effects ps in
+    let s : Grid ℕ = all_moved (seen p) (moves_in es) in
+    let fits = each-fit p.width p.height 0 ps fit in
     let shown : ℕ → ℕ → ℕ = λ x y. seen_cell (cell_at q x y) in
-    copied_is p q rects (width-presents ps p) (height-presents ps p)
-    (λ x y across down out. (not_dirty ps (nowhere p.width p.height) p x y across down (sym (cover x y) ∙ out)).1)
-    ∙ ap (λ w. grid w p.height shown) (sym (width-presents ps p))
-    ∙ ap (λ h. grid q.width h shown) (sym (height-presents ps p))
+    let wide : s.width ≡ p.width = width-moved (moves_in es) (seen p) in
+    let high : s.height ≡ p.height = height-moved (moves_in es) (seen p) in
+    let f : ℕ → ℕ → ℕ = λ x y. if any_has rects x y then value_at 0 (seen q) x y else value_at 0 s x y in
+    ap (λ n. grid n s.height f) wide
+    ∙ (ap (λ n. grid p.width n f) high
+    ∙ (grid_from_agree p.width p.height f shown (λ x y across down.
+    let at_q : value_at 0 (seen q) x y ≡ shown x y = value_at-seen q x y (rw (width-presents ps p) across) (rw (height-presents ps p) down) in
+    choose (any_has rects x y) (value_at 0 s x y) (value_at 0 (seen q) x y) (λ out.
+    same_place p (origin es x y) (value_at 0 s x y) (cell_at q x y)
+    (untouched_unless (drawn_afresh es x y) (any_has rects x y) (has_drawn x y across down) out)
+    (Lies-origin p.width p.height es x y fits across down)
+    (comes-moves es (seen p) x y fits across down)
+    (comes-presents 0 ps p x y fit across down)
+    ∙ sym at_q)
+    ∙ at_q)
+    ∙ (ap (λ n. grid n p.height shown) (sym (width-presents ps p))
+    ∙ ap (λ n. grid q.width n shown) (sym (height-presents ps p)))))

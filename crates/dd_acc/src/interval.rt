@@ -1,24 +1,29 @@
-//! What is accumulated over an interval: its dirt, and how many presents it has.
+//! What is accumulated over an interval: its moves, its dirt, and how many presents it has.
 
-ghost use Rattle.std.specs.Prelude.{◌≡◌, ◌+◌, ◌-◌, ◌^◌, ◌<◌, [], ◌∷◌, IsTrue, IfOk, OnOk};
-ghost use Rattle.dd_geom.specs.Rect.{IsSize};
+ghost use Rattle.std.specs.Prelude.{◌≡◌, ◌+◌, ◌-◌, ◌^◌, ◌<◌, ◌++◌, length, IsTrue, IfOk, OnOk};
+ghost use Rattle.dd_geom.specs.Rect.{IsSize, is_move_inside};
 ghost use Rattle.dd_bits.specs.Runs.{runs};
 ghost use Rattle.dd_ops.specs.Operations.{fits, all_fit};
-ghost use Rattle.dd_acc.specs.Effects.{dirtied, with_drawn, IsWhole};
+ghost use Rattle.dd_acc.specs.Effects.{scroll_effect, effect, effects, move_in, moves_in, dirtied, with_effect, IsWhole};
 ghost use Rattle.dd_acc.specs.Interval.{nothing, with_present};
 
 use dd_bits::Area;
-use dd_geom::{Move, Rect, Rects};
+use dd_geom::{Move, Moves, Rect, Rects};
 use dd_ops::{Op, Ops};
 use std::alloc::{AllocError, Global};
 use std::marker::Model;
 
-/// What is accumulated over an interval. Contracts see the set of its dirty points and the number
-/// of its presents.
+/// The most moves of a frame: the first scrolls of an interval are told as moves, and each later
+/// one counts as a draw of its destination.
+pub const MAX_MOVES: usize = 16;
+
+/// What is accumulated over an interval. Contracts see the set of its dirty points, its moves and
+/// the number of its presents.
 #[derive(Drop)]
 pub struct Acc<A: Area> {
     area: A,
     dirt: Rects,
+    moves: Vec<Move>,
     frames: u32,
 }
 
@@ -30,29 +35,48 @@ impl<A: Area> Model for Acc<A> {
 
     ghost Value = { Interval };
 
-    ghost view = { λ a. record { area = A.points a.area; frames = a.frames } };
+    ghost view = { λ a. record { area = A.points a.area; moves = a.moves.items; frames = a.frames } };
 
     ghost invariant = { λ a. (a.dirt ≡ runs (A.points a.area)) × IsWhole (A.points a.area) };
 }
 
-/// Adds what one operation draws.
-fn add_drawn<A: Area>(area: &mut A, op: &Op) -> Result<(), AllocError>
-    requires { IsTrue (fits (A.points area.old).width (A.points area.old).height op.now) }
-    ensures ok { OnOk result (A.points area.new ≡ with_drawn (A.points area.old) op.now) }
+/// Adds a scroll: a move, or a draw of its destination.
+fn add_scroll<A: Area>(area: &mut A, moves: &mut Vec<Move>, mv: Move) -> Result<(), AllocError>
+    requires { IsTrue (is_move_inside mv (A.points area.old).width (A.points area.old).height) }
+    ensures area { OnOk result (A.points area.new ≡ with_effect (A.points area.old) (scroll_effect (length moves.old.items) mv)) }
+    ensures moves { OnOk result (moves.new.items ≡ moves.old.items ++ move_in (scroll_effect (length moves.old.items) mv)) }
 {
-    match op {
-        Op::Fill { rect, .. } => area.add(*rect),
+    if moves.len() < MAX_MOVES {
+        moves.push(mv)?;
+        area.move_over(mv)
+    } else {
+        area.add(mv.dest)
     }
 }
 
-/// Adds what the operations touch.
-fn add_touched<A: Area>(area: &mut A, ops: &[Op]) -> Result<(), AllocError>
+/// Adds what one operation does.
+fn add_effect<A: Area>(area: &mut A, moves: &mut Vec<Move>, op: &Op) -> Result<(), AllocError>
+    requires { IsTrue (fits (A.points area.old).width (A.points area.old).height op.now) }
+    ensures area { OnOk result (A.points area.new ≡ with_effect (A.points area.old) (effect (length moves.old.items) op.now)) }
+    ensures moves { OnOk result (moves.new.items ≡ moves.old.items ++ move_in (effect (length moves.old.items) op.now)) }
+{
+    match op {
+        Op::Fill { rect, .. } => area.add(*rect),
+        Op::Blit { rect, .. } => area.add(*rect),
+        Op::Cover { rect, .. } => area.add(*rect),
+        Op::Scroll { mv } => add_scroll(area, moves, *mv),
+    }
+}
+
+/// Adds what the operations do.
+fn add_effects<A: Area>(area: &mut A, moves: &mut Vec<Move>, ops: &[Op]) -> Result<(), AllocError>
     requires fit { IsTrue (all_fit (A.points area.old).width (A.points area.old).height ops.now) }
     requires whole { IsWhole (A.points area.old) }
-    ensures { OnOk result (A.points area.new ≡ dirtied (A.points area.old) ops.now) }
+    ensures area { OnOk result (A.points area.new ≡ dirtied (A.points area.old) (effects (length moves.old.items) ops.now)) }
+    ensures moves { OnOk result (moves.new.items ≡ moves.old.items ++ moves_in (effects (length moves.old.items) ops.now)) }
 {
     for op in ops {
-        add_drawn(area, op)?;
+        add_effect(area, moves, op)?;
     }
     Ok(())
 }
@@ -68,6 +92,7 @@ impl<A: Area> Acc<A> {
         Ok(Acc {
             area,
             dirt,
+            moves: Vec::new(alloc),
             frames: 0,
         })
     }
@@ -80,23 +105,25 @@ impl<A: Area> Acc<A> {
     {
         let Acc {
             mut area,
+            mut moves,
             frames,
             ..
         } = self;
-        add_touched(&mut area, ops.as_slice())?;
+        add_effects(&mut area, &mut moves, ops.as_slice())?;
         let dirt = area.list()?;
         Ok(Acc {
             area,
             dirt,
+            moves,
             frames: frames + 1,
         })
     }
 
-    /// The scrolls of the interval that are told as moves: none yet.
+    /// The moves: the first scrolls of the interval, at most 16.
     pub fn moves(&self) -> &[Move]
-        ensures { result.now ≡ [] }
+        ensures { result.now ≡ self.now.moves }
     {
-        &[]
+        self.moves.as_slice()
     }
 
     /// The dirty rectangles: the runs of the dirty points, row by row.
@@ -106,12 +133,13 @@ impl<A: Area> Acc<A> {
         self.dirt.as_slice()
     }
 
-    /// The dirty rectangles, and no more than they.
-    pub fn into_dirt(self) -> Rects
-        ensures { result ≡ runs self.area }
+    /// The moves and the dirty rectangles, and no more than they.
+    pub fn into_lists(self) -> (Moves, Rects)
+        ensures moves { result.0 ≡ self.moves }
+        ensures dirt { result.1 ≡ runs self.area }
     {
-        let Acc { dirt, .. } = self;
-        dirt
+        let Acc { moves, dirt, .. } = self;
+        (Moves::from_vec(moves), dirt)
     }
 
     /// The number of presents.

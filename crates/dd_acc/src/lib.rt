@@ -6,5 +6,5 @@ mod laws;
 #[cfg(test)]
 mod tests;
 
-pub use interval::Acc;
-pub use laws::touched_composes;
+pub use interval::{Acc, MAX_MOVES};
+pub use laws::{dirt_is_honest, moves_and_dirt_rebuild, presents_compose, touched_composes};

@@ -2,7 +2,8 @@
 use Rattle.std.specs.Prelude.{◌≡◌, ℕ, ◌*◌, Bool, false, ◌||◌, length}
 use Rattle.dd_geom.specs.declared.rect.Rect.{Rect}
 use Rattle.dd_geom.specs.Rect.{has, IsSize}
-use Rattle.dd_geom.specs.Grid.{Grid, grid, value_at}
+use Rattle.dd_geom.specs.declared.rect.Move.{Move}
+use Rattle.dd_geom.specs.Grid.{Grid, grid, value_at, scrolled}
 
 -- whether a point is in the set; none is outside the surface
 abbrev pub is_in : Grid Bool → ℕ → ℕ → Bool
@@ -15,6 +16,10 @@ nowhere w h = grid w h (λ x y. false)
 -- the set and the points of a rectangle
 abbrev pub with_rect : Grid Bool → Rect → Grid Bool
 with_rect g r = grid g.width g.height (λ x y. has r x y || is_in g x y)
+
+-- the set after a move: a point of the destination is in it exactly where its source point was in the old one
+abbrev pub moved_over : Grid Bool → Move → Grid Bool
+moved_over = scrolled false
 
 -- a set of the points of a surface whose size is one that surfaces have
 pub record IsArea (g : Grid Bool) : Type 0 where

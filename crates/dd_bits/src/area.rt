@@ -2,11 +2,11 @@
 
 ghost use Rattle.std.specs.Prelude.{◌≡◌, ◌<◌, Bool, IsTrue, IfOk, OnOk, OnErr};
 ghost use Rattle.dd_geom.specs.Grid.{Grid};
-ghost use Rattle.dd_geom.specs.Rect.{IsSize, is_inside};
-ghost use Rattle.dd_bits.specs.Area.{is_in, nowhere, with_rect};
+ghost use Rattle.dd_geom.specs.Rect.{IsSize, is_inside, is_move_inside};
+ghost use Rattle.dd_bits.specs.Area.{is_in, nowhere, with_rect, moved_over};
 ghost use Rattle.dd_bits.specs.Runs.{runs};
 
-use dd_geom::{Rect, Rects};
+use dd_geom::{Move, Rect, Rects};
 use std::alloc::{AllocError, Global};
 
 /// A set of points of a surface.
@@ -22,6 +22,15 @@ pub trait Area: Sized + Drop {
     fn add(&mut self, r: Rect) -> Result<(), AllocError>
         requires { IsTrue (is_inside r (points self.old).width (points self.old).height) }
         ensures ok { OnOk result (points self.new ≡ with_rect (points self.old) r) }
+        ensures err { OnErr result (points self.new ≡ points self.old) }
+        ensures width { (points self.new).width ≡ (points self.old).width }
+        ensures height { (points self.new).height ≡ (points self.old).height };
+
+    /// Carries the set over by a move: each point of the destination is in the new set exactly where
+    /// its source point was in the old one, and the other points stay.
+    fn move_over(&mut self, m: Move) -> Result<(), AllocError>
+        requires { IsTrue (is_move_inside m (points self.old).width (points self.old).height) }
+        ensures ok { OnOk result (points self.new ≡ moved_over (points self.old) m) }
         ensures err { OnErr result (points self.new ≡ points self.old) }
         ensures width { (points self.new).width ≡ (points self.old).width }
         ensures height { (points self.new).height ≡ (points self.old).height };

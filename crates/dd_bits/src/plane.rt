@@ -5,7 +5,7 @@ ghost use Rattle.dd_geom.specs.Grid.{row};
 
 use crate::area::Area;
 use crate::runs::push_runs;
-use dd_geom::{Rect, Rects, paint, sides_of};
+use dd_geom::{Move, Rect, Rects, paint, scroll, sides_of};
 use std::alloc::{AllocError, Global};
 use std::marker::Model;
 
@@ -50,8 +50,8 @@ impl Plane {
 
 impl Area for Plane {
     ghost use Rattle.std.specs.Prelude.{IsTrue, IsOk, OnOk, OnErr};
-    ghost use Rattle.dd_geom.specs.Rect.{is_inside};
-    ghost use Rattle.dd_bits.specs.Area.{with_rect};
+    ghost use Rattle.dd_geom.specs.Rect.{is_inside, is_move_inside};
+    ghost use Rattle.dd_bits.specs.Area.{with_rect, moved_over};
 
     ghost points = { λ p. p };
 
@@ -76,6 +76,21 @@ impl Area for Plane {
         let width = self.width as usize;
         let height = self.height as usize;
         paint(&mut self.cells, width, height, sides_of(r), true);
+        Ok(())
+    }
+
+    /// Takes no memory.
+    fn move_over(&mut self, m: Move) -> Result<(), AllocError>
+        requires { IsTrue (is_move_inside m self.old.width self.old.height) }
+        ensures succeeds { IsOk result }
+        ensures ok { OnOk result (self.new ≡ moved_over self.old m) }
+        ensures err { OnErr result (self.new ≡ self.old) }
+        ensures width { self.new.width ≡ self.old.width }
+        ensures height { self.new.height ≡ self.old.height }
+    {
+        let width = self.width as usize;
+        let height = self.height as usize;
+        scroll(&mut self.cells, width, height, m);
         Ok(())
     }
 

@@ -3,7 +3,7 @@
 ghost use Rattle.std.specs.Prelude.{◌≡◌, IfOk};
 
 use crate::{Area, Plane, runs_cover, runs_inside};
-use dd_geom::{Rect, rect_inside};
+use dd_geom::{Move, Point, Rect, move_inside, rect_inside};
 use std::alloc::{AllocError, Global};
 use std::process::Abort;
 use std::test::Fail;
@@ -23,43 +23,58 @@ macro_rules! rect {
     };
 }
 
-/// A surface of 6 by 4: the rectangles that are added, the points that are then in the set, and the
-/// list.
+macro_rules! scroll {
+    ($x:expr, $y:expr, $dest:expr) => {
+        Move {
+            source: Point { x: $x, y: $y },
+            dest: $dest,
+        }
+    };
+}
+
+/// A surface of 6 by 4: the rectangles that are added, the moves that then carry the set over, the
+/// points that are in it at last, and the list.
 struct Case {
     name: &'static str,
     added: &'static [Rect],
+    moved: &'static [Move],
     points: [&'static [u8; 6]; 4],
     list: &'static [Rect],
 }
 
-static CASES: [Case; 6] = [
+static CASES: [Case; 11] = [
     Case {
         name: "nothing",
         added: &[],
+        moved: &[],
         points: [b"......", b"......", b"......", b"......"],
         list: &[],
     },
     Case {
         name: "a square in a corner",
         added: &[rect!(0, 0, 2, 2)],
+        moved: &[],
         points: [b"##....", b"##....", b"......", b"......"],
         list: &[rect!(0, 0, 2, 1), rect!(0, 1, 2, 2)],
     },
     Case {
         name: "two runs of one row, the right one added first",
         added: &[rect!(4, 1, 6, 2), rect!(1, 1, 3, 2)],
+        moved: &[],
         points: [b"......", b".##.##", b"......", b"......"],
         list: &[rect!(1, 1, 3, 2), rect!(4, 1, 6, 2)],
     },
     Case {
         name: "rectangles that touch and overlap",
         added: &[rect!(0, 2, 3, 3), rect!(3, 2, 5, 3), rect!(2, 2, 4, 3)],
+        moved: &[],
         points: [b"......", b"......", b"#####.", b"......"],
         list: &[rect!(0, 2, 5, 3)],
     },
     Case {
         name: "a cross",
         added: &[rect!(2, 0, 3, 4), rect!(0, 1, 6, 2)],
+        moved: &[],
         points: [b"..#...", b"######", b"..#...", b"..#..."],
         list: &[
             rect!(2, 0, 3, 1),
@@ -71,13 +86,54 @@ static CASES: [Case; 6] = [
     Case {
         name: "the last point, and the whole first row",
         added: &[rect!(5, 3, 6, 4), rect!(0, 0, 6, 1)],
+        moved: &[],
         points: [b"######", b"......", b"......", b".....#"],
         list: &[rect!(0, 0, 6, 1), rect!(5, 3, 6, 4)],
     },
+    Case {
+        name: "carried one column right, over itself",
+        added: &[rect!(0, 0, 2, 1), rect!(3, 0, 4, 1)],
+        moved: &[scroll!(0, 0, rect!(1, 0, 5, 1))],
+        points: [b"###.#.", b"......", b"......", b"......"],
+        list: &[rect!(0, 0, 3, 1), rect!(4, 0, 5, 1)],
+    },
+    Case {
+        name: "carried one column left, over itself",
+        added: &[rect!(1, 0, 2, 1), rect!(4, 0, 6, 1)],
+        moved: &[scroll!(1, 0, rect!(0, 0, 5, 1))],
+        points: [b"#..###", b"......", b"......", b"......"],
+        list: &[rect!(0, 0, 1, 1), rect!(3, 0, 6, 1)],
+    },
+    Case {
+        name: "carried one row down, over itself",
+        added: &[rect!(0, 0, 1, 1), rect!(2, 1, 3, 2)],
+        moved: &[scroll!(0, 0, rect!(0, 1, 3, 4))],
+        points: [b"#.....", b"#.....", b"..#...", b"......"],
+        list: &[rect!(0, 0, 1, 1), rect!(0, 1, 1, 2), rect!(2, 2, 3, 3)],
+    },
+    Case {
+        name: "carried one row up, over itself",
+        added: &[rect!(0, 1, 1, 2), rect!(2, 3, 3, 4)],
+        moved: &[scroll!(0, 1, rect!(0, 0, 3, 3))],
+        points: [b"#.....", b"......", b"..#...", b"..#..."],
+        list: &[rect!(0, 0, 1, 1), rect!(2, 2, 3, 3), rect!(2, 3, 3, 4)],
+    },
+    Case {
+        name: "nothing is left under a destination whose source is empty",
+        added: &[rect!(4, 2, 6, 4)],
+        moved: &[scroll!(0, 0, rect!(4, 2, 6, 4))],
+        points: [b"......", b"......", b"......", b"......"],
+        list: &[],
+    },
 ];
 
-/// The area to which the rectangles of a case are added.
-fn area_of<A: Area>(rt: &impl Abort, alloc: Global, added: &[Rect]) -> Result<A, AllocError>
+/// The area to which the rectangles of a case are added, and which its moves then carry over.
+fn area_of<A: Area>(
+    rt: &impl Abort,
+    alloc: Global,
+    added: &[Rect],
+    moved: &[Move],
+) -> Result<A, AllocError>
     ensures width { IfOk result (λ a. (A.points a).width ≡ WIDTH) }
     ensures height { IfOk result (λ a. (A.points a).height ≡ HEIGHT) }
 {
@@ -86,6 +142,10 @@ fn area_of<A: Area>(rt: &impl Abort, alloc: Global, added: &[Rect]) -> Result<A,
         assert!(rt; rect_inside(*r, WIDTH, HEIGHT));
         area.add(*r)?;
     }
+    for m in moved {
+        assert!(rt; move_inside(*m, WIDTH, HEIGHT));
+        area.move_over(*m)?;
+    }
     Ok(area)
 }
 
@@ -93,7 +153,7 @@ fn area_of<A: Area>(rt: &impl Abort, alloc: Global, added: &[Rect]) -> Result<A,
 fn run_cases<A: Area>(rt: &impl Abort, alloc: Global) -> Result<(), AllocError> {
     for case in &CASES {
         let name = case.name;
-        let area: A = area_of(rt, alloc, case.added)?;
+        let area: A = area_of(rt, alloc, case.added, case.moved)?;
         for y in 0..HEIGHT {
             let row = case.points[y as usize];
             for x in 0..WIDTH {

@@ -1,26 +1,32 @@
--- What is copied of the dirty rectangles is the surface of the picture brought forward.
-use Rattle.std.proofs.Common.{◌≡◌, ℕ, ◌+◌, Bool, true, false, ◌||◌, List, [], ◌∷◌, refl, sym, ap, ◌∙◌, subst, if◌then◌else◌, cond, arith, IsTrue}
-use Rattle.std.specs.List.{fold, list_any, count_by, All}
+-- What is moved and copied is the surface of the picture brought forward.
+use Rattle.std.proofs.Common.{◌≡◌, ℕ, ◌+◌, ◌*◌, Bool, true, false, ◌||◌, List, [], ◌∷◌, length, refl, sym, ap, ◌∙◌, subst, if◌then◌else◌, cond, arith, IsTrue}
+use Rattle.std.specs.List.{list_any, list_all, count_by, All}
+use Rattle.std.proofs.lemmas.Bool.{and_parts}
+use Rattle.std.proofs.lemmas.List.Elements.{All-nil, All-cons}
 use Rattle.std.proofs.lemmas.List.Sums.{sum_by-cons}
 use Rattle.dd_geom.specs.declared.rect.Rect.{Rect}
-use Rattle.dd_geom.specs.Rect.{has, is_inside}
-use Rattle.dd_geom.specs.Grid.{Grid}
+use Rattle.dd_geom.specs.declared.rect.Move.{Move}
+use Rattle.dd_geom.specs.Rect.{has, is_inside, is_move_inside, source_x, source_y}
+use Rattle.dd_geom.specs.Grid.{Grid, value_at}
 use Rattle.dd_geom.proofs.GridLemmas.{length-cells}
 use Rattle.dd_grid.specs.Cell.{Cell, seen_cell}
-use Rattle.dd_grid.specs.Drawing.{cell_at, seen}
-use Rattle.dd_bits.specs.Area.{is_in, nowhere}
+use Rattle.dd_grid.specs.Drawing.{cell_at, moved, seen}
+use Rattle.dd_bits.specs.Area.{is_in}
 use Rattle.dd_bits.specs.Runs.{runs}
 use Rattle.dd_bits.proofs.Cover.{count_by-runs, All-runs}
 use Rattle.dd_ops.specs.declared.operations.Op.{Op}
-use Rattle.dd_acc.specs.Effects.{dirtied, dirt}
-use Rattle.dd_acc.specs.Rebuild.{any_has, copied}
-use Rattle.dd_acc.proofs.Origins.{width-dirtied, height-dirtied}
-use Rattle.dd_acc.proofs.Rebuilding.{rebuilt, width-presents, height-presents}
+use Rattle.dd_acc.specs.Effects.{Effect, over, shifted, all_effects, moves_in, moves, dirt, presents_fit, any_reaches}
+use Rattle.dd_acc.specs.Rebuild.{any_has, all_moved, rebuild, HasDrawn}
+use Rattle.dd_acc.proofs.Origins.{effect_fits}
+use Rattle.dd_acc.proofs.Counting.{each-fit}
+use Rattle.dd_acc.proofs.Honest.{is_in-dirt, width-dirt, height-dirt, honest}
+use Rattle.dd_acc.proofs.Rebuilding.{rebuilds, width-presents, height-presents, width-moved, height-moved}
 use Rattle.dd_log.specs.declared.events.Entry.{Entry}
+use Rattle.dd_log.specs.History.{entries_fit}
 use Rattle.dd_log.specs.Desk.{presents, shown}
-use Rattle.dd_dup.specs.Reply.{dirt_of}
+use Rattle.dd_dup.specs.Reply.{moves_of, dirt_of}
 use Rattle.dd_dup.specs.Forward.{copied_each}
-use Rattle.dd_dup.proofs.Entries.{shown-presents}
+use Rattle.dd_dup.proofs.Entries.{presents-fit, shown-presents}
 use Rattle.dd_dup.proofs.Copies.{copied_each-copied}
 
 -- one of the rectangles has a point exactly where the set does
@@ -31,7 +37,7 @@ any_step false true later n ih e = ih true (omega arith)
 any_step false false later n ih e = ih false (omega arith)
 
 any_from_count : (p : Rect → Bool) (xs : List Rect) (b : Bool) → count_by p xs ≡ (if b then 1 else 0) → list_any p xs ≡ b
-any_from_count p [] true e = let f : 0 ≡ 1 = e in absurd (omega arith)
+any_from_count p [] true e = let f : 0 ≡ 1 = e in absurd (omega (arith, f))
 any_from_count p [] false e = refl
 any_from_count p (x ∷ xs) b e =
     any_step (p x) b (list_any p xs) (count_by p xs) (any_from_count p xs) (sym (sum_by-cons (λ y. cond (p y) 1 0) x xs) ∙ e)
@@ -39,21 +45,32 @@ any_from_count p (x ∷ xs) b e =
 any_has-runs : (g : Grid Bool) (x y : ℕ) → any_has (runs g) x y ≡ is_in g x y
 any_has-runs g x y = any_from_count (λ r. has r x y) (runs g) (is_in g x y) (count_by-runs g x y)
 
-width-dirt : (ps : List (List Op)) (g : Grid Bool) → (fold dirtied g ps).width ≡ g.width
-width-dirt [] g = refl
-width-dirt (ops ∷ ps) g = width-dirt ps (dirtied g ops) ∙ width-dirtied g ops
-
-height-dirt : (ps : List (List Op)) (g : Grid Bool) → (fold dirtied g ps).height ≡ g.height
-height-dirt [] g = refl
-height-dirt (ops ∷ ps) g = height-dirt ps (dirtied g ops) ∙ height-dirtied g ops
-
 -- each dirty rectangle lies inside
 pub All-dirt_of : (w h : ℕ) (es : List Entry) → All (λ r. IsTrue (is_inside r w h)) (dirt_of w h es)
 unfolding dirt_of
 All-dirt_of w h es =
     let g : Grid Bool = dirt w h (presents es) in
-    subst (λ (n : ℕ). All (λ r. IsTrue (is_inside r n h)) (runs g)) (width-dirt (presents es) (nowhere w h))
-    (subst (λ (n : ℕ). All (λ r. IsTrue (is_inside r g.width n)) (runs g)) (height-dirt (presents es) (nowhere w h)) (All-runs g))
+    subst (λ (n : ℕ). All (λ r. IsTrue (is_inside r n h)) (runs g)) (width-dirt w h (presents es))
+    (subst (λ (n : ℕ). All (λ r. IsTrue (is_inside r g.width n)) (runs g)) (height-dirt w h (presents es)) (All-runs g))
+
+-- each move lies inside
+All-moves_in : (w h : ℕ) (es : List Effect) → list_all (effect_fits w h) es ≡ true → All (λ m. IsTrue (is_move_inside m w h)) (moves_in es)
+All-moves_in w h [] t = All-nil (λ m. IsTrue (is_move_inside m w h))
+All-moves_in w h (over r ∷ es) t = All-moves_in w h es t
+All-moves_in w h (shifted m ∷ es) t =
+    let both = and_parts (is_move_inside m w h) (list_all (effect_fits w h) es) t in
+    All-cons (λ n. IsTrue (is_move_inside n w h)) m (moves_in es) both.0 (All-moves_in w h es both.1)
+
+pub All-moves_of : (w h : ℕ) (es : List Entry) → entries_fit w h es ≡ true → All (λ m. IsTrue (is_move_inside m w h)) (moves_of es)
+unfolding moves
+All-moves_of w h es fit = All-moves_in w h (all_effects (presents es)) (each-fit w h 0 (presents es) (presents-fit w h es fit))
+
+-- a surface that was moved has its size, and a colour for each point
+whole-moved : (ms : List Move) (s : Grid ℕ) → length s.cells ≡ s.width * s.height → length (all_moved s ms).cells ≡ (all_moved s ms).width * (all_moved s ms).height
+whole-moved [] s whole = whole
+whole-moved (m ∷ ms) s whole =
+    whole-moved ms (moved s m)
+    (length-cells s.width s.height (λ x y. if has m.dest x y then value_at 0 s (source_x m x) (source_y m y) else value_at 0 s x y))
 
 pub width-shown : (p : Grid Cell) (es : List Entry) → (shown p es).width ≡ p.width
 width-shown p es = ap (λ (q : Grid Cell). q.width) (shown-presents es p) ∙ width-presents (presents es) p
@@ -61,30 +78,54 @@ width-shown p es = ap (λ (q : Grid Cell). q.width) (shown-presents es p) ∙ wi
 pub height-shown : (p : Grid Cell) (es : List Entry) → (shown p es).height ≡ p.height
 height-shown p es = ap (λ (q : Grid Cell). q.height) (shown-presents es p) ∙ height-presents (presents es) p
 
--- the dirty points copied from the newer surface
-pub copied-dirt : (p : Grid Cell) (es : List Entry) → copied (seen p) (dirt_of p.width p.height es) (seen (shown p es)) ≡ seen (shown p es)
+-- the rectangles have each point that was drawn afresh
+has_drawn : (w h : ℕ) (ps : List (List Op)) → presents_fit w h ps ≡ true → HasDrawn w h ps (runs (dirt w h ps))
+has_drawn w h ps fit x y across down t = any_has-runs (dirt w h ps) x y ∙ (is_in-dirt w h ps x y fit across down ∙ t)
+
+-- the moves drawn, and the dirty points copied from the newer surface
+pub rebuild-news :
+    (p : Grid Cell) (es : List Entry) → entries_fit p.width p.height es ≡ true
+    → rebuild (seen p) (moves_of es) (dirt_of p.width p.height es) (seen (shown p es)) ≡ seen (shown p es)
 unfolding dirt_of
-copied-dirt p es =
+rebuild-news p es fit =
     let ps = presents es in
-    let e = shown-presents es p in
-    subst (λ (q : Grid Cell). copied (seen p) (runs (dirt p.width p.height ps)) (seen q) ≡ seen q) (sym e)
-    (rebuilt p ps (runs (dirt p.width p.height ps)) (any_has-runs (dirt p.width p.height ps)))
+    let rects = runs (dirt p.width p.height ps) in
+    let fits = presents-fit p.width p.height es fit in
+    subst (λ (q : Grid Cell). rebuild (seen p) (moves ps) rects (seen q) ≡ seen q) (sym (shown-presents es p))
+    (rebuilds p ps rects fits (has_drawn p.width p.height ps fits))
 
 -- the same, rectangle by rectangle
-pub copied_each-dirt : (p q : Grid Cell) (s : Grid ℕ) (rects : List Rect) (es : List Entry) → s ≡ seen p → q ≡ shown p es → rects ≡ dirt_of p.width p.height es
-    → copied_each s rects q ≡ seen (shown p es)
-copied_each-dirt p q s rects es s_is q_is rects_are =
-    ap (λ t. copied_each t rects q) s_is
-    ∙ ap (copied_each (seen p) rects) q_is
-    ∙ ap (λ rs. copied_each (seen p) rs (shown p es)) rects_are
-    ∙ copied_each-copied (dirt_of p.width p.height es) (seen p) (shown p es) (length-cells p.width p.height (λ x y. seen_cell (cell_at p x y))) (width-shown p es) (height-shown p es)
-    ∙ copied-dirt p es
+pub copied_each-news :
+    (p q : Grid Cell) (s t : Grid ℕ) (ms : List Move) (rects : List Rect) (es : List Entry)
+    → entries_fit p.width p.height es ≡ true → s ≡ seen p → t ≡ all_moved s ms → q ≡ shown p es → ms ≡ moves_of es
+    → rects ≡ dirt_of p.width p.height es → copied_each t rects q ≡ seen (shown p es)
+copied_each-news p q s t ms rects es fit s_is t_is q_is ms_are rects_are =
+    let u : Grid ℕ = all_moved (seen p) (moves_of es) in
+    let t_is_u : t ≡ u = t_is ∙ (ap (λ v. all_moved v ms) s_is ∙ ap (all_moved (seen p)) ms_are) in
+    ap (λ v. copied_each v rects q) t_is_u
+    ∙ (ap (copied_each u rects) q_is
+    ∙ (ap (λ rs. copied_each u rs (shown p es)) rects_are
+    ∙ (copied_each-copied (dirt_of p.width p.height es) u (shown p es)
+    (whole-moved (moves_of es) (seen p) (length-cells p.width p.height (λ x y. seen_cell (cell_at p x y))))
+    (width-shown p es ∙ sym (width-moved (moves_of es) (seen p)))
+    (height-shown p es ∙ sym (height-moved (moves_of es) (seen p)))
+    ∙ rebuild-news p es fit)))
 
-pub copied-advanced : (p : Grid Cell) (s t : Grid ℕ) (rects : List Rect) (es : List Entry) → s ≡ seen p → t ≡ seen (shown p es) → rects ≡ dirt_of p.width p.height es
-    → copied s rects t ≡ t
-copied-advanced p s t rects es s_is t_is rects_are =
-    ap (λ u. copied u rects t) s_is
-    ∙ ap (λ rs. copied (seen p) rs t) rects_are
-    ∙ ap (copied (seen p) (dirt_of p.width p.height es)) t_is
-    ∙ copied-dirt p es
-    ∙ sym t_is
+pub rebuild-advanced :
+    (p : Grid Cell) (s t : Grid ℕ) (ms : List Move) (rects : List Rect) (es : List Entry)
+    → entries_fit p.width p.height es ≡ true → s ≡ seen p → t ≡ seen (shown p es) → ms ≡ moves_of es
+    → rects ≡ dirt_of p.width p.height es → rebuild s ms rects t ≡ t
+rebuild-advanced p s t ms rects es fit s_is t_is ms_are rects_are =
+    ap (λ u. rebuild u ms rects t) s_is
+    ∙ (ap (λ ns. rebuild (seen p) ns rects t) ms_are
+    ∙ (ap (λ rs. rebuild (seen p) (moves_of es) rs t) rects_are
+    ∙ (ap (rebuild (seen p) (moves_of es) (dirt_of p.width p.height es)) t_is
+    ∙ (rebuild-news p es fit ∙ sym t_is))))
+
+-- a point of a dirty rectangle is where an operation drew
+pub reached-news :
+    (w h : ℕ) (es : List Entry) (x y : ℕ) → entries_fit w h es ≡ true → any_has (dirt_of w h es) x y ≡ true
+    → any_reaches (presents es) x y ≡ true
+unfolding dirt_of
+reached-news w h es x y fit t =
+    (honest w h (presents es) (presents-fit w h es fit)).reached x y (sym (any_has-runs (dirt w h (presents es)) x y) ∙ t)

@@ -2,12 +2,13 @@
 use Rattle.std.proofs.Common.{◌≡◌, ℕ, ◌+◌, ◌*◌, ◌<◌, Bool, true, false, ◌||◌, List, [], ◌∷◌, length, take, get_or, refl, sym, ap, ◌∙◌, if◌then◌else◌}
 use Rattle.std.proofs.lemmas.List.Sums.{fold_more}
 use Rattle.dd_geom.specs.declared.rect.Rect.{Rect}
+use Rattle.dd_geom.specs.declared.rect.Move.{Move}
 use Rattle.dd_geom.specs.Rect.{has}
 use Rattle.dd_geom.specs.Grid.{Grid, value_at}
 use Rattle.dd_geom.proofs.GridLemmas.{grid_from_agree, grid-value_at, value_at-grid, length-cells}
 use Rattle.dd_grid.specs.Cell.{Cell, seen_cell}
-use Rattle.dd_grid.specs.Drawing.{cell_at, seen, taken}
-use Rattle.dd_acc.specs.Rebuild.{any_has, copied}
+use Rattle.dd_grid.specs.Drawing.{cell_at, moved, seen, taken}
+use Rattle.dd_acc.specs.Rebuild.{any_has, copied, all_moved}
 use Rattle.dd_dup.specs.Forward.{copied_each}
 
 -- one turn of the loop
@@ -16,6 +17,13 @@ pub copied_more : (s t : Grid ℕ) (rs : List Rect) (p : Grid Cell) (k : ℕ) (d
 copied_more s t rs p k d k_in so_far =
     ap (λ g. taken g (get_or rs k d) p) so_far
     ∙ sym (fold_more (λ g r. taken g r p) s rs k d k_in)
+
+-- one turn of the loop over the moves
+pub moved_more : (s t : Grid ℕ) (ms : List Move) (k : ℕ) (d : Move) → k < length ms → t ≡ all_moved s (take k ms)
+    → moved t (get_or ms k d) ≡ all_moved s (take (k + 1) ms)
+moved_more s t ms k d k_in so_far =
+    ap (λ g. moved g (get_or ms k d)) so_far
+    ∙ sym (fold_more moved s ms k d k_in)
 
 choose_twice : (here later : Bool) (new old : ℕ) → (if later then new else (if here then new else old)) ≡ (if here || later then new else old)
 choose_twice true true new old = refl

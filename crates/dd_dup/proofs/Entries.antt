@@ -1,18 +1,19 @@
 -- Entries one after another: what one more adds to the presents, the picture and what is accumulated.
 use Rattle.std.proofs.Common.{◌≡◌, ℕ, ◌+◌, ◌<◌, ◌≤◌, true, List, [], ◌∷◌, ◌++◌, length, take, get_or, refl, sym, ap, ◌∙◌, append-nil, arith, length-append}
 use Rattle.std.specs.List.{fold}
+use Rattle.std.proofs.lemmas.Bool.{and_parts, and_from}
 use Rattle.std.proofs.lemmas.List.{take_more}
 use Rattle.std.proofs.lemmas.List.Concat.{flat_map-append}
 use Rattle.std.proofs.lemmas.List.Sums.{AllPass-from_list_all, fold_push}
 use Rattle.std.proofs.lemmas.List.{length-take}
 use Rattle.dd_geom.specs.Grid.{Grid}
 use Rattle.dd_grid.specs.Cell.{Cell}
-use Rattle.dd_bits.specs.Area.{nowhere}
 use Rattle.dd_ops.specs.declared.operations.Op.{Op}
-use Rattle.dd_ops.specs.Operations.{drawn}
-use Rattle.dd_acc.specs.Effects.{dirtied}
-use Rattle.dd_acc.specs.Interval.{Interval, nothing}
-use Rattle.dd_acc.proofs.Origins.{width-dirtied, height-dirtied}
+use Rattle.dd_ops.specs.Operations.{all_fit, drawn}
+use Rattle.dd_acc.specs.Effects.{dirt, moves, presents_fit}
+use Rattle.dd_acc.specs.Interval.{Interval, nothing, with_present}
+use Rattle.dd_acc.proofs.Counting.{composes, list_all-append}
+use Rattle.dd_acc.proofs.Honest.{width-dirt, height-dirt}
 use Rattle.dd_log.specs.declared.events.Entry.{Entry}
 use Rattle.dd_log.specs.declared.events.Event.{Event}
 use Rattle.dd_log.specs.declared.events.Event.TheVariants.{Opened}
@@ -64,40 +65,6 @@ unfolding entries_fit
 fit_item w h es k e t k_in is = ap (λ (x : Entry). event_fits w h x.event) is ∙ AllPass-from_list_all (λ (x : Entry). event_fits w h x.event) es t k e k_in
 
 -- accumulating keeps the size, and counts presents
-width-with_event : (i : Interval) (e : Event) → (with_event i e).area.width ≡ i.area.width
-width-with_event i (events.Draw (Present ops)) = width-dirtied i.area ops
-width-with_event i (Opened slot app) = refl
-
-height-with_event : (i : Interval) (e : Event) → (with_event i e).area.height ≡ i.area.height
-height-with_event i (events.Draw (Present ops)) = height-dirtied i.area ops
-height-with_event i (Opened slot app) = refl
-
-width-with_entries : (es : List Entry) (i : Interval) → (with_entries i es).area.width ≡ i.area.width
-width-with_entries [] i = refl
-width-with_entries (e ∷ es) i = width-with_entries es (with_event i e.event) ∙ width-with_event i e.event
-
-height-with_entries : (es : List Entry) (i : Interval) → (with_entries i es).area.height ≡ i.area.height
-height-with_entries [] i = refl
-height-with_entries (e ∷ es) i = height-with_entries es (with_event i e.event) ∙ height-with_event i e.event
-
-pub width-accumulated : (w h : ℕ) (es : List Entry) → (accumulated w h es).area.width ≡ w
-unfolding accumulated
-width-accumulated w h es = width-with_entries es (nothing w h)
-
-pub height-accumulated : (w h : ℕ) (es : List Entry) → (accumulated w h es).area.height ≡ h
-unfolding accumulated
-height-accumulated w h es = height-with_entries es (nothing w h)
-
-frames-with_event : (i : Interval) (e : Event) → (with_event i e).frames ≡ i.frames + length (present_of e)
-frames-with_event i (events.Draw (Present ops)) = refl
-frames-with_event i (Opened slot app) = omega arith
-
-pub frames-with_entries : (es : List Entry) (i : Interval) → (with_entries i es).frames ≡ i.frames + length (presents es)
-unfolding presents
-frames-with_entries [] i = omega arith
-frames-with_entries (e ∷ es) i =
-    omega (arith, frames-with_entries es (with_event i e.event), frames-with_event i e.event, length-append (present_of e.event) (presents es))
-
 few_presents : (e : Event) → length (present_of e) ≤ 1
 few_presents (events.Draw (Present ops)) = omega arith
 few_presents (Opened slot app) = omega arith
@@ -107,27 +74,34 @@ unfolding presents
 length-presents [] = omega arith
 length-presents (e ∷ es) = omega (arith, length-presents es, few_presents e.event, length-append (present_of e.event) (presents es))
 
-pub frames-accumulated : (w h : ℕ) (es : List Entry) → (accumulated w h es).frames ≡ length (presents es)
+-- the presents alone are accumulated
+with_entries-presents : (es : List Entry) (i : Interval) → with_entries i es ≡ fold with_present i (presents es)
+unfolding presents
+with_entries-presents [] i = refl
+with_entries-presents (e ∷ es) i = with_entries-presents es (with_event i e.event) ∙ one i e.event (presents es) where
+  one : (i : Interval) (e : Event) (ps : List (List Op)) → fold with_present (with_event i e) ps ≡ fold with_present i (present_of e ++ ps)
+  one i (events.Draw (Present ops)) ps = refl
+  one i (Opened slot app) ps = refl
+
+pub accumulated_is :
+    (w h : ℕ) (es : List Entry)
+    → accumulated w h es ≡ record { area = dirt w h (presents es); moves = moves (presents es); frames = length (presents es) }
 unfolding accumulated
-frames-accumulated w h es = frames-with_entries es (nothing w h) ∙ omega arith
+accumulated_is w h es = with_entries-presents es (nothing w h) ∙ composes w h (presents es)
+
+pub width-accumulated : (w h : ℕ) (es : List Entry) → (accumulated w h es).area.width ≡ w
+width-accumulated w h es = ap (λ (i : Interval). i.area.width) (accumulated_is w h es) ∙ width-dirt w h (presents es)
+
+pub height-accumulated : (w h : ℕ) (es : List Entry) → (accumulated w h es).area.height ≡ h
+height-accumulated w h es = ap (λ (i : Interval). i.area.height) (accumulated_is w h es) ∙ height-dirt w h (presents es)
+
+pub frames-accumulated : (w h : ℕ) (es : List Entry) → (accumulated w h es).frames ≡ length (presents es)
+frames-accumulated w h es = ap (λ (i : Interval). i.frames) (accumulated_is w h es)
 
 pub few_frames : (w h k n : ℕ) (es : List Entry) (i : Interval) → k ≤ n → i ≡ accumulated w h (take k es) → i.frames ≤ n
 few_frames w h k n es i k_in so_far =
     omega (arith, ap (λ (j : Interval). j.frames) so_far, frames-accumulated w h (take k es), length-presents (take k es), length-take k es)
 
-area-with_entries : (es : List Entry) (i : Interval) → (with_entries i es).area ≡ fold dirtied i.area (presents es)
-unfolding presents
-area-with_entries [] i = refl
-area-with_entries (e ∷ es) i = area-with_entries es (with_event i e.event) ∙ one i e.event (presents es) where
-  one : (i : Interval) (e : Event) (ps : List (List Op)) → fold dirtied (with_event i e).area ps ≡ fold dirtied i.area (present_of e ++ ps)
-  one i (events.Draw (Present ops)) ps = refl
-  one i (Opened slot app) ps = refl
-
-pub area-accumulated : (w h : ℕ) (es : List Entry) → (accumulated w h es).area ≡ fold dirtied (nowhere w h) (presents es)
-unfolding accumulated
-area-accumulated w h es = area-with_entries es (nothing w h)
-
--- what entries show is what their presents draw
 pub shown-presents : (es : List Entry) (p : Grid Cell) → shown p es ≡ fold drawn p (presents es)
 unfolding presents
 shown-presents [] p = refl
@@ -135,3 +109,14 @@ shown-presents (e ∷ es) p = shown-presents es (shown_after p e.event) ∙ one 
   one : (p : Grid Cell) (e : Event) (ps : List (List Op)) → fold drawn (shown_after p e) ps ≡ fold drawn p (present_of e ++ ps)
   one p (events.Draw (Present ops)) ps = refl
   one p (Opened slot app) ps = refl
+
+-- entries that fit are presents that do
+pub presents-fit : (w h : ℕ) (es : List Entry) → entries_fit w h es ≡ true → presents_fit w h (presents es) ≡ true
+unfolding entries_fit presents
+presents-fit w h [] t = refl
+presents-fit w h (e ∷ es) t =
+    let both = and_parts (event_fits w h e.event) _ t in
+    list_all-append (λ ops. all_fit w h ops) (present_of e.event) (presents es) (one e.event both.0) (presents-fit w h es both.1) where
+      one : (ev : Event) → event_fits w h ev ≡ true → presents_fit w h (present_of ev) ≡ true
+      one (events.Draw (Present ops)) f = and_from _ _ f refl
+      one (Opened slot app) f = refl

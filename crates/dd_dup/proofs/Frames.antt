@@ -1,5 +1,5 @@
 -- The frame that is made, and lists that begin with one that a duplicator stands on.
-use Rattle.std.proofs.Common.{◌≡◌, ℕ, zero, suc, ◌*◌, ◌<◌, ◌≤◌, Bool, true, false, List, [], ◌∷◌, length, take, drop, Option, Some, None, refl, sym, ap, ◌∙◌, arith, if◌then◌else◌, pos}
+use Rattle.std.proofs.Common.{◌≡◌, ℕ, zero, suc, ◌*◌, ◌<◌, ◌≤◌, Bool, true, false, List, [], ◌∷◌, length, take, drop, Option, Some, None, refl, sym, ap, ◌∙◌, subst, arith, if◌then◌else◌}
 use Rattle.std.specs.Prelude.{slice_get}
 use Rattle.std.proofs.lemmas.List.Sums.{fold-append}
 use Rattle.std.proofs.Math.Nat.{mul_comm}
@@ -11,6 +11,7 @@ use Rattle.dd_grid.specs.Drawing.{blank}
 use Rattle.dd_modes.specs.declared.modes.Mode.{Mode}
 use Rattle.dd_modes.specs.Modes.{first_mode}
 use Rattle.dd_log.specs.declared.events.Spec.{Spec}
+use Rattle.dd_log.specs.declared.answers.DupRefusal.{DupRefusal}
 use Rattle.dd_log.specs.declared.answers.DupRefusal.TheVariants.{InvalidCall, WaitTimeout}
 use Rattle.dd_geom.specs.declared.rect.Rect.{Rect}
 use Rattle.dd_geom.specs.declared.rect.Move.{Move}
@@ -18,68 +19,69 @@ use Rattle.dd_geom.specs.declared.rect.TheConstants.{MAX_PIXELS}
 use Rattle.dd_geom.specs.Rect.{IsSize}
 use Rattle.dd_geom.specs.Grid.{Grid}
 use Rattle.dd_grid.specs.Cell.{Cell}
-use Rattle.dd_grid.specs.Drawing.{black, seen}
+use Rattle.dd_grid.specs.Drawing.{black, seen, any_hidden}
+use Rattle.dd_acc.specs.declared.interval.TheConstants.{MAX_MOVES}
+use Rattle.dd_acc.specs.Effects.{dirt}
+use Rattle.dd_acc.proofs.Counting.{few_moves}
+use Rattle.dd_acc.proofs.Honest.{width-dirt, height-dirt}
 use Rattle.dd_bits.specs.Runs.{runs}
 use Rattle.dd_bits.proofs.Few.{length-runs}
 use Rattle.dd_acc.specs.Interval.{Interval}
 use Rattle.dd_log.specs.declared.events.Entry.{Entry}
-use Rattle.dd_log.specs.History.{History, Begins, first_entries, mode_of}
+use Rattle.dd_log.specs.History.{History, Begins, first_entries, mode_of, entries_fit}
+use Rattle.dd_log.proofs.Legal.{legal-fit, entries_fit-drop}
+use Rattle.dd_acc.specs.Rebuild.{any_has, rebuild}
 use Rattle.dd_log.specs.Desk.{picture, view, shown, presents}
 use Rattle.dd_dup.specs.declared.frame.Frame.{Frame}
-use Rattle.dd_dup.specs.Reply.{Memory, frame, frame_of, dirt_of, last_present, news, acquire_reply}
+use Rattle.dd_dup.specs.declared.frame.News.{News}
+use Rattle.dd_dup.specs.Reply.{Memory, frame, frame_from, news_of, news_since, moves_of, dirt_of, last_present, news, granted}
 use Rattle.dd_dup.specs.Forward.{accumulated}
-use Rattle.dd_dup.specs.Duplicator.{Duplicator, duplicator}
+use Rattle.dd_dup.specs.Duplicator.{Duplicator, duplicator, FramesRebuild, FramesAreReached}
 use Rattle.dd_dup.specs.Stands.{Stands, opens_at, is_opening}
-use Rattle.dd_dup.proofs.Entries.{width-accumulated, height-accumulated, area-accumulated}
-use Rattle.dd_dup.proofs.Advance.{width-shown, height-shown}
+use Rattle.dd_dup.proofs.Entries.{accumulated_is}
+use Rattle.dd_dup.proofs.Advance.{width-shown, height-shown, rebuild-news, reached-news}
 
-abbrev pub made : ℕ → ℕ → ℕ → List Move → List Rect → Frame
-made last count meta moves dirt = record {
-  info = record {
-    last_present = last;
-    last_mouse = 0;
-    accumulated = count;
-    coalesced = false;
-    protected = false;
-    pointer = record { position = record { x = pos 0; y = pos 0 }; visible = false };
-    meta_size = meta;
-    shape_size = 0;
-  };
-  moves = moves;
-  dirt = dirt;
-}
+abbrev pub made : ℕ → ℕ → List Move → List Rect → News
+made count last moves dirt = record { accumulated = count; last_present = last; moves = moves; dirt = dirt }
 
--- the frame that is made of its parts
-pub frame_made : (w h place last count meta : ℕ) (moves : List Move) (dirt : List Rect) (es : List Entry) → last ≡ last_present 0 place es → count ≡ length (presents es) → meta ≡ 16 * length dirt → moves ≡ [] → dirt ≡ dirt_of w h es
-    → made last count meta moves dirt ≡ frame_of w h place es
-unfolding frame_of
-frame_made w h place last count meta moves dirt es last_is count_is meta_is none dirt_is =
-    ap (λ n. made n count meta moves dirt) last_is
-    ∙ ap (λ n. made (last_present 0 place es) n meta moves dirt) count_is
-    ∙ ap (λ n. made (last_present 0 place es) (length (presents es)) n moves dirt) (meta_is ∙ ap (λ d. 16 * length d) dirt_is)
-    ∙ ap (λ ms. made (last_present 0 place es) (length (presents es)) (16 * length (dirt_of w h es)) ms dirt) none
-    ∙ ap (made (last_present 0 place es) (length (presents es)) (16 * length (dirt_of w h es)) []) dirt_is
+-- the news that are made of their parts
+pub news_made :
+    (w h place count last : ℕ) (ms : List Move) (dirt : List Rect) (es : List Entry) (acc : Interval) → acc ≡ accumulated w h es
+    → count ≡ acc.frames → last ≡ last_present 0 place es → ms ≡ acc.moves → dirt ≡ runs acc.area
+    → made count last ms dirt ≡ news_of w h place es
+unfolding news_of dirt_of
+news_made w h place count last ms dirt es acc acc_is count_is last_is moves_are dirt_is =
+    let is = acc_is ∙ accumulated_is w h es in
+    let c : count ≡ length (presents es) = count_is ∙ ap (λ (i : Interval). i.frames) is in
+    let m : ms ≡ moves_of es = moves_are ∙ ap (λ (i : Interval). i.moves) is in
+    let d : dirt ≡ dirt_of w h es = dirt_is ∙ ap (λ (i : Interval). runs i.area) is in
+    ap (λ n. made n last ms dirt) c
+    ∙ (ap (λ n. made (length (presents es)) n ms dirt) last_is
+    ∙ (ap (λ ns. made (length (presents es)) (last_present 0 place es) ns dirt) m
+    ∙ ap (made (length (presents es)) (last_present 0 place es) (moves_of es)) d))
 
-pub dirt_made : (w h : ℕ) (es : List Entry) (acc : Interval) (dirt : List Rect) → dirt ≡ runs acc.area → acc ≡ accumulated w h es → dirt ≡ dirt_of w h es
-unfolding dirt_of
-dirt_made w h es acc dirt dirt_is acc_is = dirt_is ∙ ap (λ (i : Interval). runs i.area) acc_is ∙ ap runs (area-accumulated w h es)
+-- the lists of a frame are short enough for their bytes to be counted
+pub few_moves_of : (w h place : ℕ) (es : List Entry) → length (news_of w h place es).moves ≤ MAX_MOVES
+unfolding news_of
+few_moves_of w h place es = few_moves (presents es)
 
-pub few_made : (w h : ℕ) (es : List Entry) (acc : Interval) (dirt : List Rect) → IsSize w h → dirt ≡ runs acc.area → acc ≡ accumulated w h es → length dirt ≤ MAX_PIXELS
-few_made w h es acc dirt size dirt_is acc_is =
-    let wide : acc.area.width ≡ w = ap (λ (i : Interval). i.area.width) acc_is ∙ width-accumulated w h es in
-    let high : acc.area.height ≡ h = ap (λ (i : Interval). i.area.height) acc_is ∙ height-accumulated w h es in
-    let few : length (runs acc.area) ≤ acc.area.height * acc.area.width = length-runs acc.area in
-    let product : acc.area.height * acc.area.width ≡ h * w = ap (λ n. n * acc.area.width) high ∙ ap (λ n. h * n) wide in
+pub few_dirt_of : (w h place : ℕ) (es : List Entry) → IsSize w h → length (news_of w h place es).dirt ≤ MAX_PIXELS
+unfolding news_of dirt_of
+few_dirt_of w h place es size =
+    let g : Grid Bool = dirt w h (presents es) in
+    let few : length (runs g) ≤ g.height * g.width = length-runs g in
+    let product : g.height * g.width ≡ h * w =
+    ap (λ n. n * g.width) (height-dirt w h (presents es)) ∙ ap (λ n. h * n) (width-dirt w h (presents es)) in
     let pixels : w * h ≤ MAX_PIXELS = size.pixels in
-    omega (arith, few, product, pixels, mul_comm w h, ap length dirt_is)
+    omega (arith, few, product, pixels, mul_comm w h)
 
-pub frame-dirt : (w h place : ℕ) (es : List Entry) → (frame_of w h place es).dirt ≡ dirt_of w h es
-unfolding frame_of
-frame-dirt w h place es = refl
+pub news-moves : (w h place : ℕ) (es : List Entry) → (news_of w h place es).moves ≡ moves_of es
+unfolding news_of
+news-moves w h place es = refl
 
-pub frame-moves : (w h place : ℕ) (es : List Entry) → (frame_of w h place es).moves ≡ []
-unfolding frame_of
-frame-moves w h place es = refl
+pub news-dirt : (w h place : ℕ) (es : List Entry) → (news_of w h place es).dirt ≡ dirt_of w h es
+unfolding news_of
+news-dirt w h place es = refl
 
 -- the desk's picture has the mode's size
 pub width-picture : (h : History) → (picture h).width ≡ (mode_of h).width
@@ -167,20 +169,72 @@ stands_held d h f stands = record {
   surface = ap seen (picture_all h);
 }
 
--- the frame that a reply gives
-pub replied : (m : Memory) (h : History) (f : Frame) → acquire_reply m h ≡ Ok f → f ≡ frame h m.mark
-replied m h f e = from (is_some m.held) (length (presents (news h m.mark)) == 0) e where
-  from : (held none : Bool) → (if held then Err InvalidCall else (if none then Err WaitTimeout else Ok (frame h m.mark))) ≡ Ok f → f ≡ frame h m.mark
+-- a reply that gives something, and what it gives
+pub given : {A : Type 0} (m : Memory) (h : History) (x y : A) → granted m h x ≡ Ok y → x ≡ y
+given {A} m h x y e = from (is_some m.held) (length (presents (news h m.mark)) == 0) e where
+  from : (held none : Bool) → (if held then Err InvalidCall else (if none then Err WaitTimeout else Ok x)) ≡ Ok y → x ≡ y
   from true none e = cc
   from false true e = cc
   from false false e = cc
 
+-- where a reply gives one thing it gives any other that is asked for
+pub given_too : {A B : Type 0} (m : Memory) (h : History) (x y : A) (z : B) → granted m h x ≡ Ok y → granted m h z ≡ Ok z
+given_too {A} {B} m h x y z e = from (is_some m.held) (length (presents (news h m.mark)) == 0) e where
+  from : (held none : Bool) → (if held then Err InvalidCall else (if none then Err WaitTimeout else Ok x)) ≡ Ok y
+      → (if held then Err InvalidCall else (if none then Err WaitTimeout else Ok z)) ≡ Ok z
+  from true none e = cc
+  from false true e = cc
+  from false false e = refl
+
+pub refused_too : {A B : Type 0} (m : Memory) (h : History) (x : A) (z : B) (cause : DupRefusal) → granted m h x ≡ Err cause → granted m h z ≡ Err cause
+refused_too {A} {B} m h x z cause e = from (is_some m.held) (length (presents (news h m.mark)) == 0) e where
+  from : (held none : Bool) → (if held then Err InvalidCall else (if none then Err WaitTimeout else Ok x)) ≡ Err cause
+      → (if held then Err InvalidCall else (if none then Err WaitTimeout else Ok z)) ≡ Err cause
+  from true none e = cc
+  from false true e = cc
+  from false false e = cc
+
+-- the frame that is made of what is new
+pub frame_made : (h : History) (mark : ℕ) (n : News) (p : Grid Cell) (protected : Bool) → n ≡ news_since h mark → p ≡ picture h → protected ≡ any_hidden p
+    → frame_from n protected ≡ frame h mark
+frame_made h mark n p protected n_is p_is hides =
+    ap (λ (m : News). frame_from m protected) n_is
+    ∙ ap (frame_from (news_since h mark)) (hides ∙ ap any_hidden p_is)
+
 -- duplicators of equal parts
-pub same_parts : (opened opened' mark mark' : ℕ) (held : Option Frame) (s s' : Grid ℕ) (p p' : Grid Cell) (mode mode' : Mode) → opened ≡ opened' → mark ≡ mark' → s ≡ s' → p ≡ p' → mode ≡ mode'
-    → duplicator opened mark held s p mode ≡ duplicator opened' mark' held s' p' mode'
-same_parts opened opened' mark mark' held s s' p p' mode mode' a b c d e =
+pub same_parts : (opened opened' mark mark' : ℕ) (held held' : Option Frame) (s s' : Grid ℕ) (p p' : Grid Cell) (mode mode' : Mode) → opened ≡ opened' → mark ≡ mark' → held ≡ held' → s ≡ s' → p ≡ p' → mode ≡ mode'
+    → duplicator opened mark held s p mode ≡ duplicator opened' mark' held' s' p' mode'
+same_parts opened opened' mark mark' held held' s s' p p' mode mode' a b f c d e =
     ap (λ n. duplicator n mark held s p mode) a
-    ∙ ap (λ n. duplicator opened' n held s p mode) b
-    ∙ ap (λ t. duplicator opened' mark' held t p mode) c
-    ∙ ap (λ q. duplicator opened' mark' held s' q mode) d
-    ∙ ap (λ (k : Mode). duplicator opened' mark' held s' p' k) e
+    ∙ (ap (λ n. duplicator opened' n held s p mode) b
+    ∙ (ap (λ (o : Option Frame). duplicator opened' mark' o s p mode) f
+    ∙ (ap (λ t. duplicator opened' mark' held' t p mode) c
+    ∙ (ap (λ q. duplicator opened' mark' held' s' q mode) d
+    ∙ ap (λ (k : Mode). duplicator opened' mark' held' s' p' k) e))))
+
+-- the frame's dirt is where the entries of its interval drew
+pub reached : FramesAreReached
+reached h mark t x y e =
+    reached-news (mode_of h).width (mode_of h).height (news h mark) x y
+    (entries_fit-drop (mode_of h).width (mode_of h).height h.entries mark (legal-fit h t))
+    (ap (λ rs. any_has rs x y) (sym (news-dirt (mode_of h).width (mode_of h).height mark (news h mark))) ∙ e)
+
+-- a frame rebuilds what is seen at the end of its interval
+pub rebuilds : FramesRebuild
+rebuilds h mark t =
+    let p : Grid Cell = picture (first_entries mark h) in
+    let es = news h mark in
+    let ahead = picture_forward h mark in
+    let w = (mode_of h).width in
+    let k = (mode_of h).height in
+    let wide : p.width ≡ w = width-picture (first_entries mark h) in
+    let high : p.height ≡ k = height-picture (first_entries mark h) in
+    let fit : entries_fit w k es ≡ true = entries_fit-drop w k h.entries mark (legal-fit h t) in
+    ap (λ ms. rebuild (seen p) ms (frame h mark).dirt (view h)) (news-moves w k mark es)
+    ∙ (ap (λ rs. rebuild (seen p) (moves_of es) rs (view h))
+    (news-dirt w k mark es ∙ (ap (λ n. dirt_of n k es) (sym wide) ∙ ap (λ n. dirt_of p.width n es) (sym high)))
+    ∙ (ap (λ (q : Grid Cell). rebuild (seen p) (moves_of es) (dirt_of p.width p.height es) (seen q)) (sym ahead)
+    ∙ (rebuild-news p es
+    (subst (λ (n : ℕ). entries_fit n p.height es ≡ true) (sym wide)
+    (subst (λ (n : ℕ). entries_fit w n es ≡ true) (sym high) fit))
+    ∙ ap seen ahead)))

@@ -1,10 +1,13 @@
 -- What one duplicator answers, told by its memory and the list.
-use Rattle.std.specs.Prelude.{◌≡◌, ℕ, ◌+◌, ◌*◌, ◌==◌, false, if◌then◌else◌, pos, List, [], ◌∷◌, length, drop, Option, Some, None, is_some, option_map, Result, Ok, Err}
+use Rattle.std.specs.Prelude.{◌≡◌, ℕ, ◌+◌, ◌*◌, ◌==◌, Bool, false, if◌then◌else◌, pos, List, [], ◌∷◌, length, drop, Option, Some, None, is_some, option_map, Result, Ok, Err}
 use Rattle.dd_geom.specs.declared.rect.Rect.{Rect}
+use Rattle.dd_geom.specs.declared.rect.Move.{Move}
 use Rattle.dd_dup.specs.declared.frame.Frame.{Frame}
+use Rattle.dd_dup.specs.declared.frame.News.{News}
+use Rattle.dd_grid.specs.Drawing.{any_hidden}
 use Rattle.dd_geom.specs.Grid.{rows}
 use Rattle.dd_bits.specs.Runs.{runs}
-use Rattle.dd_acc.specs.Effects.{dirt}
+use Rattle.dd_acc.specs.Effects.{dirt, moves}
 use Rattle.dd_log.specs.declared.events.Entry.{Entry}
 use Rattle.dd_log.specs.declared.events.Event.{Event}
 use Rattle.dd_log.specs.declared.events.Event.TheVariants.{Opened}
@@ -13,7 +16,7 @@ use Rattle.dd_log.specs.declared.answers.FrameInfo.{FrameInfo}
 use Rattle.dd_log.specs.declared.answers.DupRefusal.{DupRefusal}
 use Rattle.dd_log.specs.declared.answers.DupRefusal.TheVariants.{InvalidCall, WaitTimeout, OutOfMemory}
 use Rattle.dd_log.specs.History.{History, mode_of, first_entries}
-use Rattle.dd_log.specs.Desk.{presents, view}
+use Rattle.dd_log.specs.Desk.{presents, picture, view}
 
 -- What a duplicator remembers: its opening place, its picture mark, and the frame that it holds.
 pub record Memory : Type 0 where
@@ -42,34 +45,52 @@ last_present last place (e ∷ es) = last_present (number_after last place e.eve
 abbrev pub news : History → ℕ → List Entry
 news h mark = drop mark h.entries
 
--- the dirty rectangles of some entries, on a surface of this size
+-- the moves of some entries, and their dirty rectangles on a surface of this size
+abbrev pub moves_of : List Entry → List Move
+moves_of es = moves (presents es)
+
 unfoldable pub dirt_of : ℕ → ℕ → List Entry → List Rect
 dirt_of w h es = runs (dirt w h (presents es))
 
--- the frame of the entries from a place on: no event hides a point, tells a pointer or scrolls
-unfoldable pub frame_of : ℕ → ℕ → ℕ → List Entry → Frame
-frame_of w h place es = record {
-  info = record {
-    last_present = last_present 0 place es;
-    last_mouse = 0;
-    accumulated = length (presents es);
-    coalesced = false;
-    protected = false;
-    pointer = record { position = record { x = pos 0; y = pos 0 }; visible = false };
-    meta_size = 16 * length (dirt_of w h es);
-    shape_size = 0;
-  };
-  moves = [];
+-- what some entries tell, where the first of them stands at a place
+unfoldable pub news_of : ℕ → ℕ → ℕ → List Entry → News
+news_of w h place es = record {
+  accumulated = length (presents es);
+  last_present = last_present 0 place es;
+  moves = moves_of es;
   dirt = dirt_of w h es;
 }
 
--- the frame of the interval from a mark on
+-- a frame of what is new, and of whether some point of the desk is hidden: no event tells a pointer yet
+abbrev pub info_from : News → Bool → FrameInfo
+info_from n protected = record {
+  last_present = n.last_present;
+  last_mouse = 0;
+  accumulated = n.accumulated;
+  coalesced = false;
+  protected = protected;
+  pointer = record { position = record { x = pos 0; y = pos 0 }; visible = false };
+  meta_size = 24 * length n.moves + 16 * length n.dirt;
+  shape_size = 0;
+}
+
+abbrev pub frame_from : News → Bool → Frame
+frame_from n protected = record { info = info_from n protected; moves = n.moves; dirt = n.dirt }
+
+-- what is new from a mark on, and the frame of this interval
+abbrev pub news_since : History → ℕ → News
+news_since h mark = news_of (mode_of h).width (mode_of h).height mark (news h mark)
+
 abbrev pub frame : History → ℕ → Frame
-frame h mark = frame_of (mode_of h).width (mode_of h).height mark (news h mark)
+frame h mark = frame_from (news_since h mark) (any_hidden (picture h))
+
+-- the first cause that refuses an acquire, or what it is given
+abbrev pub granted : {A : Type 0} → Memory → History → A → Result A DupRefusal
+granted m h given = if is_some m.held then Err InvalidCall else (if length (presents (news h m.mark)) == 0 then Err WaitTimeout else Ok given)
 
 -- the answer to an acquire
 abbrev pub acquire_reply : Memory → History → Result Frame DupRefusal
-acquire_reply m h = if is_some m.held then Err InvalidCall else (if length (presents (news h m.mark)) == 0 then Err WaitTimeout else Ok (frame h m.mark))
+acquire_reply m h = granted m h (frame h m.mark)
 
 -- and the memory after an answer
 abbrev pub memory_after : Memory → History → Result Frame DupRefusal → Memory
@@ -102,9 +123,9 @@ Answers (Err InvalidCall) old new h = (Err InvalidCall ≡ told (acquire_reply o
 Answers (Err WaitTimeout) old new h = (Err WaitTimeout ≡ told (acquire_reply old h)) × (new ≡ acquire_memory old h)
 Answers (Ok info) old new h = (Ok info ≡ told (acquire_reply old h)) × (new ≡ acquire_memory old h)
 
--- The frame is that of the reply, unless memory is wanting.
-abbrev pub Gives : Result Frame DupRefusal → Result Frame DupRefusal → Type 0
+-- What is new is that of the reply, unless memory is wanting.
+abbrev pub Gives : Result News DupRefusal → Result News DupRefusal → Type 0
 Gives (Err OutOfMemory) reply = Unit {0}
 Gives (Err InvalidCall) reply = reply ≡ Err InvalidCall
 Gives (Err WaitTimeout) reply = reply ≡ Err WaitTimeout
-Gives (Ok f) reply = reply ≡ Ok f
+Gives (Ok n) reply = reply ≡ Ok n

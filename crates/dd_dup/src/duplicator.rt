@@ -5,12 +5,13 @@ ghost use Rattle.dd_geom.specs.Rect.{IsSize};
 ghost use Rattle.dd_geom.specs.declared.rect.TheConstants.{MAX_PIXELS};
 ghost use Rattle.dd_log.specs.History.{entries_fit};
 ghost use Rattle.dd_log.specs.declared.events.TheConstants.{MAX_CAPACITY};
-ghost use Rattle.dd_dup.specs.Reply.{frame_of};
+ghost use Rattle.dd_acc.specs.declared.interval.TheConstants.{MAX_MOVES};
+ghost use Rattle.dd_dup.specs.Reply.{news_of, frame_from};
 
 use crate::counting::{count_presents, number_of_last};
 use crate::forward::{advance, gather};
-use crate::frame::Frame;
-use dd_geom::{Move, Moves, Point, Rect};
+use crate::frame::{Frame, News};
+use dd_geom::{Move, Point, Rect};
 use dd_grid::{Picture, Surface};
 use dd_log::{DupRefusal, Entry, FrameInfo, Log, Pointer};
 use dd_modes::Mode;
@@ -19,6 +20,9 @@ use std::marker::Model;
 
 /// The bytes of a dirty rectangle among the metadata (RECT).
 const RECT_BYTES: u32 = 16;
+
+/// The bytes of a move among the metadata (DXGI_OUTDUPL_MOVE_RECT).
+const MOVE_BYTES: u32 = 24;
 
 /// One duplicator. It holds the picture and the surface of its mark, and brings both forward by
 /// the entries that are new.
@@ -43,34 +47,28 @@ impl Model for Dup {
     ghost view = { λ d. duplicator d.opened d.mark d.held d.surface d.picture d.mode };
 }
 
-/// The bytes of the metadata of a frame with these dirty rectangles.
-fn metadata_of(dirt: &[Rect]) -> u32
-    requires { length dirt.now ≤ MAX_PIXELS }
-    ensures { result ≡ 16 * length dirt.now }
+/// The bytes of the metadata of a frame with these moves and dirty rectangles.
+fn metadata_of(moves: &[Move], dirt: &[Rect]) -> u32
+    requires moves { length moves.now ≤ MAX_MOVES }
+    requires dirt { length dirt.now ≤ MAX_PIXELS }
+    ensures { result ≡ 24 * length moves.now + 16 * length dirt.now }
 {
-    RECT_BYTES * dirt.len() as u32
+    MOVE_BYTES * moves.len() as u32 + RECT_BYTES * dirt.len() as u32
 }
 
-/// The frame of the entries that are new, which begin at a place. All memory that an acquire takes
-/// is taken here.
-fn make_frame(alloc: Global, mode: Mode, place: u64, news: &[Entry]) -> Result<Frame, AllocError>
-    requires size { IsSize mode.width mode.height }
-    requires fit { IsTrue (entries_fit mode.width mode.height news.now) }
-    requires few { length news.now ≤ MAX_CAPACITY }
-    requires places { place + length news.now < 2 ^ 64 }
-    ensures { IfOk result (λ f. f ≡ frame_of mode.width mode.height place news.now) }
+/// The frame of what is new; `protected` says whether some point is hidden.
+fn frame_of(news: News, protected: bool) -> Frame
+    requires moves { length news.moves ≤ MAX_MOVES }
+    requires dirt { length news.dirt ≤ MAX_PIXELS }
+    ensures { result ≡ frame_from news protected }
 {
-    let acc = gather(alloc, mode.width, mode.height, news)?;
-    let accumulated = acc.frames();
-    let dirt = acc.into_dirt();
-    let meta_size = metadata_of(dirt.as_slice());
-    let last_present = number_of_last(place, news);
+    let meta_size = metadata_of(news.moves.as_slice(), news.dirt.as_slice());
     let info = FrameInfo {
-        last_present,
+        last_present: news.last_present,
         last_mouse: 0,
-        accumulated,
+        accumulated: news.accumulated,
         coalesced: false,
-        protected: false,
+        protected,
         pointer: Pointer {
             position: Point { x: 0, y: 0 },
             visible: false,
@@ -78,14 +76,38 @@ fn make_frame(alloc: Global, mode: Mode, place: u64, news: &[Entry]) -> Result<F
         meta_size,
         shape_size: 0,
     };
-    let moves = Moves::from_vec(Vec::new(alloc));
-    Ok(Frame { info, moves, dirt })
+    Frame {
+        info,
+        moves: news.moves,
+        dirt: news.dirt,
+    }
+}
+
+/// What the new entries tell, which begin at a place. All memory that an acquire takes is taken
+/// here.
+fn tell(alloc: Global, mode: Mode, place: u64, entries: &[Entry]) -> Result<News, AllocError>
+    requires size { IsSize mode.width mode.height }
+    requires fit { IsTrue (entries_fit mode.width mode.height entries.now) }
+    requires few { length entries.now ≤ MAX_CAPACITY }
+    requires places { place + length entries.now < 2 ^ 64 }
+    ensures { IfOk result (λ n. n ≡ news_of mode.width mode.height place entries.now) }
+{
+    let acc = gather(alloc, mode.width, mode.height, entries)?;
+    let accumulated = acc.frames();
+    let last_present = number_of_last(place, entries);
+    let (moves, dirt) = acc.into_lists();
+    Ok(News {
+        accumulated,
+        last_present,
+        moves,
+        dirt,
+    })
 }
 
 impl Dup {
     ghost use Rattle.dd_log.specs.Desk.{view, picture};
-    ghost use Rattle.dd_dup.specs.Reply.{fresh, frame, acquire_reply, release_reply, Answers, Gives};
-    ghost use Rattle.dd_dup.specs.Duplicator.{duplicator, lent, held_moves, held_dirt, held_info, released, Rebuilds};
+    ghost use Rattle.dd_dup.specs.Reply.{fresh, news, news_since, frame, granted, release_reply, Answers, Gives};
+    ghost use Rattle.dd_dup.specs.Duplicator.{duplicator, lent, held_moves, held_dirt, held_info, released, Rebuilds, IsReached};
     ghost use Rattle.dd_dup.specs.Stands.{Stands, StandsOnceOpened};
 
     /// A duplicator that is opened at place `at`, the list's length. It stands on each list that
@@ -109,42 +131,48 @@ impl Dup {
         })
     }
 
-    /// The frame that an acquire gives, or why none is given. It changes nothing, and takes all
+    /// What an acquire would tell as new, or why it is refused. It changes nothing, and takes all
     /// memory that an acquire takes; `hold` does the rest.
-    pub fn next_frame(&self, log: &Log) -> Result<Frame, DupRefusal>
+    pub fn next_news(&self, log: &Log) -> Result<News, DupRefusal>
         requires { Stands self.now log.now }
-        ensures { Gives result (acquire_reply self.now.memory log.now) }
+        ensures { Gives result (granted self.now.memory log.now (news_since log.now self.now.memory.mark)) }
     {
         if self.held.is_some() {
             return Err(DupRefusal::InvalidCall);
         }
         let mode = log.mode();
-        let news = log.after(self.mark);
-        if count_presents(news) == 0 {
+        let entries = log.after(self.mark);
+        if count_presents(entries) == 0 {
             return Err(DupRefusal::WaitTimeout);
         }
-        Ok(make_frame(self.alloc, mode, self.mark, news)?)
+        Ok(tell(self.alloc, mode, self.mark, entries)?)
     }
 
-    /// Holds the frame that `next_frame` gave, with the picture and the surface brought forward. It
-    /// takes no memory.
-    pub fn hold(&mut self, log: &Log, next: Frame)
+    /// Holds the frame of what `next_news` told, with the picture and the surface brought forward, and
+    /// says what the frame tells. It takes no memory.
+    pub fn hold(&mut self, log: &Log, next: News) -> FrameInfo
         requires stands { Stands self.old log.now }
-        requires next { next ≡ frame log.now self.old.memory.mark }
-        ensures held { self.new ≡ duplicator self.old.memory.opened (length log.now.entries) (Some next) (view log.now) (picture log.now) self.old.mode }
+        requires next { next ≡ news_since log.now self.old.memory.mark }
+        ensures info { result ≡ (frame log.now self.old.memory.mark).info }
+        ensures held { self.new ≡ duplicator self.old.memory.opened (length log.now.entries) (Some (frame log.now self.old.memory.mark)) (view log.now) (picture log.now) self.old.mode }
         ensures stands_still { Stands self.new log.now }
         ensures surface { self.new.surface ≡ view log.now }
-        ensures rebuilt { Rebuilds self.old.surface (Some next) self.new.surface }
+        ensures rebuilt { Rebuilds self.old.surface self.new.memory.held self.new.surface }
+        ensures reached { IsReached self.new.memory.held (news log.now self.old.memory.mark) }
     {
-        let news = log.after(self.mark);
+        let entries = log.after(self.mark);
         advance(
             &mut self.picture,
             &mut self.surface,
-            news,
+            entries,
+            next.moves.as_slice(),
             next.dirt.as_slice(),
         );
+        let frame = frame_of(next, self.picture.any_hidden());
+        let info = frame.info;
         self.mark = log.len();
-        self.held = Some(next);
+        self.held = Some(frame);
+        info
     }
 
     /// Acquires a frame of what is new (AcquireNextFrame).
@@ -156,14 +184,14 @@ impl Dup {
         ensures answer { Answers result self.old.memory self.new.memory log.now }
         ensures err { OnErr result (self.new ≡ self.old) }
         ensures stands { Stands self.new log.now }
-        // The surface is what is seen of the desk, and the frame rebuilds it from the one before.
+        // The surface is what is seen of the desk, the frame rebuilds it from the one before, and
+        // its dirt is where something was drawn or scrolled to.
         ensures surface { OnOk result (self.new.surface ≡ view log.now) }
         ensures rebuilt { OnOk result (Rebuilds self.old.surface self.new.memory.held self.new.surface) }
+        ensures reached { OnOk result (IsReached self.new.memory.held (news log.now self.old.memory.mark)) }
     {
-        let next = self.next_frame(log)?;
-        let info = next.info;
-        self.hold(log, next);
-        Ok(info)
+        let next = self.next_news(log)?;
+        Ok(self.hold(log, next))
     }
 
     /// Releases the held frame (ReleaseFrame); with none it is InvalidCall, and nothing changes.

@@ -1,10 +1,10 @@
 //! A picture and a surface brought forward by the entries that are new.
 
 ghost use Rattle.std.specs.Prelude.{◌≡◌, ◌≤◌, IsTrue, IfOk, All, length};
-ghost use Rattle.dd_geom.specs.Rect.{IsSize, is_inside};
+ghost use Rattle.dd_geom.specs.Rect.{IsSize, is_inside, is_move_inside};
 ghost use Rattle.dd_grid.specs.Drawing.{seen};
-ghost use Rattle.dd_acc.specs.Rebuild.{copied};
-ghost use Rattle.dd_dup.specs.Reply.{dirt_of};
+ghost use Rattle.dd_acc.specs.Rebuild.{all_moved, rebuild};
+ghost use Rattle.dd_dup.specs.Reply.{moves_of, dirt_of};
 ghost use Rattle.dd_log.specs.History.{event_fits, entries_fit};
 ghost use Rattle.dd_log.specs.Desk.{shown_after, shown, presents};
 ghost use Rattle.dd_log.specs.declared.events.TheConstants.{MAX_CAPACITY};
@@ -12,7 +12,7 @@ ghost use Rattle.dd_dup.specs.Forward.{with_event, accumulated, copied_each};
 
 use dd_acc::Acc;
 use dd_bits::Plane;
-use dd_geom::Rect;
+use dd_geom::{Move, Rect};
 use dd_grid::{Picture, Surface};
 use dd_log::{Draw, Entry, Event};
 use dd_ops::apply;
@@ -74,6 +74,18 @@ pub(crate) fn gather(
     Ok(acc)
 }
 
+/// Draws moves on a surface, in order.
+pub(crate) fn move_all(surface: &mut Surface, moves: &[Move])
+    requires { All (λ m. IsTrue (is_move_inside m surface.old.width surface.old.height)) moves.now }
+    ensures moved { surface.new ≡ all_moved surface.old moves.now }
+    ensures width { surface.new.width ≡ surface.old.width }
+    ensures height { surface.new.height ≡ surface.old.height }
+{
+    for mv in moves {
+        surface.scroll(*mv);
+    }
+}
+
 /// Copies what is seen of the picture in the dirty rectangles.
 pub(crate) fn copy_dirt(surface: &mut Surface, rects: &[Rect], picture: &Picture)
     requires inside { All (λ r. IsTrue (is_inside r surface.old.width surface.old.height)) rects.now }
@@ -90,20 +102,23 @@ pub(crate) fn copy_dirt(surface: &mut Surface, rects: &[Rect], picture: &Picture
 
 /// Brings a picture, and the surface of what is seen of it, forward by the entries that are new.
 ///
-/// `rects` are the dirty rectangles of these entries. It takes no memory.
+/// `moves` and `rects` are the moves and the dirty rectangles of these entries. It takes no memory.
 pub(crate) fn advance(
     picture: &mut Picture,
     surface: &mut Surface,
     entries: &[Entry],
+    moves: &[Move],
     rects: &[Rect],
 )
     requires fit { IsTrue (entries_fit picture.old.width picture.old.height entries.now) }
     requires seen { surface.old ≡ seen picture.old }
+    requires moves { moves.now ≡ moves_of entries.now }
     requires dirt { rects.now ≡ dirt_of picture.old.width picture.old.height entries.now }
     ensures picture { picture.new ≡ shown picture.old entries.now }
     ensures surface { surface.new ≡ seen (shown picture.old entries.now) }
-    ensures rebuilt { copied surface.old rects.now surface.new ≡ surface.new }
+    ensures rebuilt { rebuild surface.old moves.now rects.now surface.new ≡ surface.new }
 {
     draw_entries(picture, entries);
+    move_all(surface, moves);
     copy_dirt(surface, rects, picture);
 }

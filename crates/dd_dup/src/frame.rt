@@ -3,6 +3,17 @@
 use dd_geom::{Moves, Rects};
 use dd_log::FrameInfo;
 
+/// What is new since a duplicator's mark.
+#[derive(Debug, Drop)]
+pub struct News {
+    /// The number of presents.
+    pub accumulated: u32,
+    /// The event number, from 1, of the last of them.
+    pub last_present: u64,
+    pub moves: Moves,
+    pub dirt: Rects,
+}
+
 /// An acquired frame.
 #[derive(Debug, Drop)]
 pub struct Frame {

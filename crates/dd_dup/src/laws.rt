@@ -1,7 +1,7 @@
 //! Laws of the definitions.
 
 ghost use Rattle.dd_dup.specs.Stands.{StandsLater};
-ghost use Rattle.dd_dup.specs.Duplicator.{FramesRebuild};
+ghost use Rattle.dd_dup.specs.Duplicator.{FramesRebuild, FramesAreReached};
 
 /// A duplicator that stands on a list stands on each list that begins with it.
 pub fn stands_later()
@@ -12,4 +12,9 @@ pub fn stands_later()
 /// beginning.
 pub fn frames_rebuild()
     ensures { FramesRebuild }
+{}
+
+/// A frame's dirt is where the operations of its interval drew, or scrolled to.
+pub fn frames_are_reached()
+    ensures { FramesAreReached }
 {}

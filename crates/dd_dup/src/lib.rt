@@ -9,8 +9,8 @@ mod laws;
 
 pub use dd_log::{DupRefusal, FrameInfo, Pointer};
 pub use duplicator::Dup;
-pub use frame::Frame;
-pub use laws::{frames_rebuild, stands_later};
+pub use frame::{Frame, News};
+pub use laws::{frames_are_reached, frames_rebuild, stands_later};
 
 #[cfg(test)]
 mod tests;

@@ -1,3 +1,5 @@
+pub mod Examples
 pub mod GridLemmas
 pub mod PaintLemmas
 pub mod RectLemmas
+pub mod ScrollLemmas

@@ -36,14 +36,14 @@ run_places w q r y l e n across fits order =
     ]
 
 -- between the sides in the row that is painted now or in one before it
-one_row_more :
+pub one_row_more :
     {A : Type 0} (p : Bool) (t q y : ℕ) (v o : A) → t ≤ y
     → cond (eqb q y && p) v (cond (p && leb t q && ltb q y) v o) ≡ cond (p && leb t q && ltb q (y + 1)) v o
 one_row_more true t q y v o e = grind (arith, nat_tests)
 one_row_more false t q y v o e = grind (arith, nat_tests)
 
 -- a choice whose first value is used only where the test holds
-cond_same : {A : Type 0} (b : Bool) (u v o : A) → (b ≡ true → u ≡ v) → cond b u o ≡ cond b v o
+pub cond_same : {A : Type 0} (b : Bool) (u v o : A) → (b ≡ true → u ≡ v) → cond b u o ≡ cond b v o
 cond_same true u v o e = e refl
 cond_same false u v o e = refl
 

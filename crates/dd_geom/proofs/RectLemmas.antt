@@ -1,13 +1,14 @@
 -- The points of a rectangle: on a surface, and where two of them meet.
-use Rattle.std.proofs.Common.{◌≡◌, ℕ, Bool, true, false, ◌&&◌, ℤ, pos, negsuc, nat_le, nat_lt, int_le, int_lt, refl, ap, inl, inr, ◌∙◌, sym, arith, ◌≤◌}
+use Rattle.std.proofs.Common.{◌≡◌, ℕ, Bool, true, false, ◌&&◌, ℤ, pos, negsuc, nat_le, nat_lt, int_le, int_lt, refl, ap, inl, inr, ◌∙◌, sym, arith, ◌≤◌, ◌+◌, ◌-◌, ◌+ℤ◌, ◌-ℤ◌, ◌≤ℤ◌}
 use Rattle.std.specs.Int.{int_max, int_min}
 use Rattle.std.proofs.lemmas.Bool.{and_cases, and_left, and_right, and_parts}
 use Rattle.std.proofs.lemmas.Bool.Decides.{nat_tests}
 use Rattle.std.proofs.lemmas.Int.{ints}
-use Rattle.dd_geom.specs.Rect.{place, covers, HasIsCovers, CoversBoth, AreApart, meet_of, sides, spans_inside, is_inside, AreInside}
+use Rattle.dd_geom.specs.Rect.{place, covers, HasIsCovers, CoversBoth, AreApart, meet_of, sides, spans_inside, is_inside, AreInside, is_move_inside, source_rect}
 use Rattle.dd_geom.specs.declared.rect.Rect.{Rect}
+use Rattle.dd_geom.specs.declared.rect.Move.{Move}
 
-and_assoc : (a b c : Bool) → (a && b && c) ≡ (a && (b && c))
+pub and_assoc : (a b c : Bool) → (a && b && c) ≡ (a && (b && c))
 and_assoc true b c = refl
 and_assoc false b c = refl
 
@@ -94,3 +95,36 @@ AreInside-sides r w h e =
     let x = span_places r.left r.right w both.0 in
     let y = span_places r.top r.bottom h both.1 in
     record { across = x.0; down = y.0; right = x.1; bottom = y.1 }
+
+-- a span of the same length that lies inside too, from a place of its own
+source_places :
+    (at from to : ℤ) (n m : ℕ) → spans_inside from to n ≡ true → spans_inside at (at +ℤ (to -ℤ from)) m ≡ true
+    → place at + (place to - place from) ≤ m
+source_places (pos k) (pos a) (pos b) n m span e =
+    let ordered : a ≤ b = (span_places (pos a) (pos b) n span).0 in
+    let end = pos k +ℤ (pos b -ℤ pos a) in
+    let parts = and_parts (int_le (pos 0) (pos k) && int_lt (pos k) end) (int_le end (pos m)) e in
+    let within : (pos k +ℤ (pos b -ℤ pos a)) ≤ℤ pos m = grind (arith, ints) in
+    let reach : k + (b - a) ≤ m = omega (arith, ints) in
+    reach
+source_places at (negsuc a) to n m span e = absurd (grind (arith, nat_tests))
+source_places at (pos a) (negsuc b) n m span e = absurd (grind (arith, nat_tests))
+source_places (negsuc k) (pos a) (pos b) n m span e = absurd (grind (arith, nat_tests))
+
+-- a move that lies inside, as places: where it copies to, and how far its source reaches
+pub record IsMoveInside (m : Move) (w h : ℕ) : Type 0 where
+  pub dest : AreInside (sides m.dest) w h
+  pub across : place m.source.x + (place m.dest.right - place m.dest.left) ≤ w
+  pub down : place m.source.y + (place m.dest.bottom - place m.dest.top) ≤ h
+
+pub IsMoveInside-test : (m : Move) (w h : ℕ) → is_move_inside m w h ≡ true → IsMoveInside m w h
+IsMoveInside-test m w h e =
+    let from = source_rect m in
+    let both = and_parts (is_inside m.dest w h) (is_inside from w h) e in
+    let dest = and_parts (spans_inside m.dest.left m.dest.right w) (spans_inside m.dest.top m.dest.bottom h) both.0 in
+    let source = and_parts (spans_inside from.left from.right w) (spans_inside from.top from.bottom h) both.1 in
+    record {
+      dest = AreInside-sides m.dest w h both.0;
+      across = source_places m.source.x m.dest.left m.dest.right w w dest.0 source.0;
+      down = source_places m.source.y m.dest.top m.dest.bottom h h dest.1 source.1;
+    }

@@ -1,6 +1,8 @@
 -- One value for each point of a surface, row by row: pictures, surfaces and sets of points are grids.
 use Rattle.std.specs.Prelude.{ℕ, ◌+◌, ◌*◌, ◌/◌, ◌%◌, List, map, take, drop, slice_index_or, nat_lt, ◌&&◌, if◌then◌else◌}
 use Rattle.std.specs.List.{range_with_len}
+use Rattle.dd_geom.specs.declared.rect.Move.{Move}
+use Rattle.dd_geom.specs.Rect.{has, source_x, source_y}
 
 pub record Grid (A : Type 0) : Type 0 where
   pub width : ℕ
@@ -22,3 +24,9 @@ module _ {A : Type 0} where
 
   abbrev pub rows : Grid A → List (List A)
   rows g = map (row g) (range_with_len 0 g.height)
+
+  -- a grid after a move: each point of the destination has the value that its source point had
+  abbrev pub scrolled : A → Grid A → Move → Grid A
+  scrolled d g m =
+      grid g.width g.height
+      (λ x y. if has m.dest x y then value_at d g (source_x m x) (source_y m y) else value_at d g x y)

@@ -1,2 +1,3 @@
 pub mod Rect
 pub mod Grid
+pub mod Scrolling

@@ -1,7 +1,8 @@
 -- Rectangles and moves as sets of points, after the API's RECT, POINT and DXGI_OUTDUPL_MOVE_RECT.
-use Rattle.std.specs.Prelude.{◌≡◌, ℕ, ◌*◌, ◌≤◌, ℤ, pos, negsuc, int_le, int_lt, ◌<ℤ◌, Bool, false, ◌&&◌, nat_le, nat_lt}
-use Rattle.std.specs.Int.{int_max, int_min}
+use Rattle.std.specs.Prelude.{◌≡◌, ℕ, ◌+◌, ◌-◌, ◌*◌, ◌≤◌, ℤ, pos, negsuc, int_le, int_lt, ◌<ℤ◌, ◌+ℤ◌, ◌-ℤ◌, FitsSigned, Bool, false, ◌&&◌, nat_le, nat_lt}
+use Rattle.std.specs.Int.{int_max, int_min, w32}
 use Rattle.dd_geom.specs.declared.rect.Rect.{Rect}
+use Rattle.dd_geom.specs.declared.rect.Move.{Move}
 use Rattle.dd_geom.specs.declared.rect.Sides.{Sides}
 use Rattle.dd_geom.specs.declared.rect.TheConstants.{MAX_SIDE, MAX_PIXELS}
 
@@ -74,3 +75,39 @@ pub record AreInside (s : Sides) (w h : ℕ) : Type 0 where
   pub down : s.top ≤ s.bottom
   pub right : s.right ≤ w
   pub bottom : s.bottom ≤ h
+
+-- a rectangle so many columns further right and rows further down
+abbrev pub shifted : Rect → ℤ → ℤ → Rect
+shifted r dx dy = record { left = r.left +ℤ dx; top = r.top +ℤ dy; right = r.right +ℤ dx; bottom = r.bottom +ℤ dy }
+
+-- each side of a rectangle is a number of 32 bits with a sign
+pub record FitsSides (r : Rect) : Type 0 where
+  pub left : FitsSigned w32 r.left
+  pub top : FitsSigned w32 r.top
+  pub right : FitsSigned w32 r.right
+  pub bottom : FitsSigned w32 r.bottom
+
+-- how many points lie between a rectangle's sides
+abbrev pub points : Rect → ℕ
+points r = (place r.right - place r.left) * (place r.bottom - place r.top)
+
+-- the rectangle that a move copies from
+abbrev pub source_rect : Move → Rect
+source_rect m =
+    record {
+      left = m.source.x;
+      top = m.source.y;
+      right = m.source.x +ℤ (m.dest.right -ℤ m.dest.left);
+      bottom = m.source.y +ℤ (m.dest.bottom -ℤ m.dest.top);
+    }
+
+-- a move lies inside a surface: what it copies to, and what it copies from
+abbrev pub is_move_inside : Move → ℕ → ℕ → Bool
+is_move_inside m w h = is_inside m.dest w h && is_inside (source_rect m) w h
+
+-- the column and the row of the source point of a point of the destination
+abbrev pub source_x : Move → ℕ → ℕ
+source_x m x = (x + place m.source.x) - place m.dest.left
+
+abbrev pub source_y : Move → ℕ → ℕ
+source_y m y = (y + place m.source.y) - place m.dest.top

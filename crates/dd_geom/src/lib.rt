@@ -4,6 +4,7 @@
 mod lists;
 mod painting;
 mod rect;
+mod scrolling;
 #[cfg(test)]
 mod tests;
 
@@ -11,5 +12,6 @@ pub use lists::{Moves, Rects};
 pub use painting::paint;
 pub use rect::{
     MAX_PIXELS, MAX_SIDE, Move, Point, Rect, Sides, contains, has_is_covers, intersect,
-    rect_inside, sides_of,
+    move_inside, point_count, rect_inside, shift, sides_of,
 };
+pub use scrolling::scroll;

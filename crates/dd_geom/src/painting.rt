@@ -1,4 +1,4 @@
-//! One value painted between four sides of a grid's cells.
+//! What is painted and copied between four sides of a grid's cells.
 
 ghost use Rattle.std.specs.Prelude.{◌≡◌, ℕ, ◌*◌, ◌/◌, ◌%◌, ◌≤◌, ◌<◌, length, replicate, slice_index_or, if◌then◌else◌};
 ghost use Rattle.dd_geom.specs.Rect.{between, AreInside};

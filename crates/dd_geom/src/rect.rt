@@ -1,7 +1,7 @@
 //! Points, rectangles and moves, in whole pixels from the top left corner of the surface.
 
-ghost use Rattle.std.specs.Prelude.{◌≡◌, ◌&&◌, int_le, int_lt, IfSome, IfNone};
-ghost use Rattle.dd_geom.specs.Rect.{covers, spans_inside, is_inside, place, sides};
+ghost use Rattle.std.specs.Prelude.{◌≡◌, ◌+ℤ◌, ◌-ℤ◌, ◌&&◌, int_le, int_lt, IfSome, IfNone, IsSome, ◌↔◌};
+ghost use Rattle.dd_geom.specs.Rect.{covers, spans_inside, is_inside, place, sides, shifted, FitsSides, points, source_rect, is_move_inside};
 ghost use Rattle.dd_geom.specs.Rect.{HasPoints, CoversBoth, AreApart, HasIsCovers, meet_of};
 
 /// The longest side of a mode, in pixels.
@@ -101,6 +101,61 @@ pub fn rect_inside(r: Rect, w: u32, h: u32) -> bool
     spans(r.left, r.right, w) && spans(r.top, r.bottom, h)
 }
 
+/// The rectangle `dx` columns further right and `dy` rows further down; `None` exactly where one of
+/// its sides would not be an `i32`.
+pub fn shift(r: Rect, dx: i32, dy: i32) -> Option<Rect>
+    ensures some { IfSome result (λ s. s ≡ shifted r dx dy) }
+    ensures variant { IsSome result ↔ FitsSides (shifted r dx dy) }
+{
+    Some(Rect {
+        left: r.left.checked_add(dx)?,
+        top: r.top.checked_add(dy)?,
+        right: r.right.checked_add(dx)?,
+        bottom: r.bottom.checked_add(dy)?,
+    })
+}
+
+/// The place after the last of those from `at` on, as many as there are from `from` to `to - 1`.
+fn source_end(at: i32, from: i32, to: i32) -> i64
+    ensures { result ≡ at +ℤ (to -ℤ from) }
+{
+    i64::from(at) + (i64::from(to) - i64::from(from))
+}
+
+/// Whether the places from `at` on, as many as there are from `from` to `to - 1`, are some, and all
+/// among the first `length`.
+fn source_spans(at: i32, from: i32, to: i32, length: u32) -> bool
+    ensures { result ≡ spans_inside at (at +ℤ (to -ℤ from)) length }
+{
+    let end = source_end(at, from, to);
+    at >= 0 && i64::from(at) < end && end <= i64::from(length)
+}
+
+/// Whether the rectangle that a move copies from lies inside a surface of this size.
+fn source_inside(m: Move, w: u32, h: u32) -> bool
+    ensures { result ≡ is_inside (source_rect m) w h }
+{
+    source_spans(m.source.x, m.dest.left, m.dest.right, w)
+        && source_spans(m.source.y, m.dest.top, m.dest.bottom, h)
+}
+
+/// Whether the move lies inside a surface of this size: its destination does, and the rectangle of
+/// the same size at its source point too.
+pub fn move_inside(m: Move, w: u32, h: u32) -> bool
+    ensures { result ≡ is_move_inside m w h }
+{
+    rect_inside(m.dest, w, h) && source_inside(m, w, h)
+}
+
+/// How many points lie between the sides of a rectangle; of one that lies inside a surface, exactly
+/// its points.
+pub fn point_count(r: Rect) -> usize
+    ensures { result ≡ points r }
+{
+    let sides = sides_of(r);
+    sides.right.saturating_sub(sides.left) * sides.bottom.saturating_sub(sides.top)
+}
+
 /// The sides of a rectangle, as indices: of one that lies inside, exactly its sides.
 pub fn sides_of(r: Rect) -> Sides
     ensures { result ≡ sides r }
@@ -114,7 +169,7 @@ pub fn sides_of(r: Rect) -> Sides
 }
 
 /// A coordinate as an index, 0 where it is negative.
-fn index_of(coordinate: i32) -> usize
+pub(crate) fn index_of(coordinate: i32) -> usize
     ensures { result ≡ place coordinate }
 {
     if coordinate < 0 {

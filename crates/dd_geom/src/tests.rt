@@ -1,7 +1,8 @@
 //! Each public call once, with answers worked out by hand.
 
 use crate::{
-    Move, Moves, Point, Rect, Rects, Sides, contains, intersect, paint, rect_inside, sides_of,
+    Move, Moves, Point, Rect, Rects, Sides, contains, intersect, move_inside, paint, point_count,
+    rect_inside, scroll, shift, sides_of,
 };
 use std::test::Fail;
 
@@ -11,6 +12,13 @@ fn rect(left: i32, top: i32, right: i32, bottom: i32) -> Rect {
         top,
         right,
         bottom,
+    }
+}
+
+fn step(x: i32, y: i32, dest: Rect) -> Move {
+    Move {
+        source: Point { x, y },
+        dest,
     }
 }
 
@@ -65,16 +73,118 @@ fn paints_between_the_sides(rt: HostRuntime) {
 }
 
 #[test]
+fn rectangles_shift(rt: HostRuntime) {
+    let low = rect(i32::MIN, i32::MIN, 0, 0);
+    let high = rect(0, 0, i32::MAX, i32::MAX);
+    let cases = [
+        (
+            "right and up",
+            rect(1, 2, 3, 4),
+            10,
+            -20,
+            Some(rect(11, -18, 13, -16)),
+        ),
+        ("left past the range", low, -1, 0, None),
+        ("up past the range", low, 0, -1, None),
+        ("right past the range", high, 1, 0, None),
+        ("down past the range", high, 0, 1, None),
+        (
+            "from one end to the other",
+            low,
+            i32::MAX,
+            i32::MAX,
+            Some(rect(-1, -1, i32::MAX, i32::MAX)),
+        ),
+    ];
+    for (name, r, dx, dy, want) in cases {
+        assert_eq!(rt; shift(r, dx, dy), want, "{name}");
+    }
+}
+
+#[test]
+fn moves_and_their_surfaces(rt: HostRuntime) {
+    let dest = rect(1, 1, 3, 3);
+    let cases = [
+        ("at the top left corner", step(0, 0, dest), true),
+        ("at the right and bottom sides", step(2, 1, dest), true),
+        ("source past the left side", step(-1, 0, dest), false),
+        ("source past the top", step(0, -1, dest), false),
+        ("source past the right side", step(3, 1, dest), false),
+        ("source past the bottom", step(2, 2, dest), false),
+        (
+            "destination past the right side",
+            step(0, 0, rect(3, 1, 5, 3)),
+            false,
+        ),
+        (
+            "destination past the bottom",
+            step(0, 0, rect(1, 2, 3, 4)),
+            false,
+        ),
+        (
+            "destination past the left side",
+            step(0, 0, rect(-1, 0, 1, 2)),
+            false,
+        ),
+        ("no points", step(0, 0, rect(1, 1, 1, 3)), false),
+    ];
+    for (name, m, want) in cases {
+        assert_eq!(rt; move_inside(m, 4, 3), want, "{name}");
+    }
+    assert_eq!(rt; point_count(rect(1, 1, 4, 3)), 6);
+    assert_eq!(rt; point_count(rect(3, 1, 1, 3)), 0);
+}
+
+#[test]
+fn scrolls_over_itself(rt: HostRuntime) {
+    let first = [11u32, 12, 13, 14, 21, 22, 23, 24, 31, 32, 33, 34];
+    let cases = [
+        (
+            "right by one",
+            step(0, 0, rect(1, 0, 4, 2)),
+            [11, 11, 12, 13, 21, 21, 22, 23, 31, 32, 33, 34],
+        ),
+        (
+            "left by one",
+            step(1, 1, rect(0, 1, 3, 3)),
+            [11, 12, 13, 14, 22, 23, 24, 24, 32, 33, 34, 34],
+        ),
+        (
+            "down by one",
+            step(1, 0, rect(1, 1, 4, 3)),
+            [11, 12, 13, 14, 21, 12, 13, 14, 31, 22, 23, 24],
+        ),
+        (
+            "up by one",
+            step(1, 1, rect(1, 0, 4, 2)),
+            [11, 22, 23, 24, 21, 32, 33, 34, 31, 32, 33, 34],
+        ),
+        (
+            "whole rows down by one",
+            step(0, 0, rect(0, 1, 4, 3)),
+            [11, 12, 13, 14, 11, 12, 13, 14, 21, 22, 23, 24],
+        ),
+        (
+            "right and down",
+            step(0, 0, rect(1, 1, 4, 3)),
+            [11, 12, 13, 14, 21, 11, 12, 13, 31, 21, 22, 23],
+        ),
+    ];
+    for (name, m, want) in cases {
+        let mut cells = first;
+        assert!(rt; move_inside(m, 4, 3), "{name}");
+        scroll(&mut cells, 4, 3, m);
+        assert_eq!(rt; cells, want, "{name}");
+    }
+}
+
+#[test]
 fn lists_keep_their_vectors(rt: HostRuntime) -> Result<(), Fail> {
     let r = rect(0, 0, 1, 1);
     let rects = Rects::from_vec(vec![in rt.alloc(); r]?);
     assert_eq!(rt; rects.as_slice().len(), 1);
     assert_eq!(rt; rects.into_vec().len(), 1);
-    let step = Move {
-        source: Point { x: 2, y: 0 },
-        dest: r,
-    };
-    let moves = Moves::from_vec(vec![in rt.alloc(); step]?);
+    let moves = Moves::from_vec(vec![in rt.alloc(); step(2, 0, r)]?);
     assert_eq!(rt; moves.as_slice().len(), 1);
     assert_eq!(rt; moves.into_vec().len(), 1);
     Ok(())

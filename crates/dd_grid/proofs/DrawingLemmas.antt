@@ -1,17 +1,19 @@
 -- What is drawn on the cells of a picture or a surface is the grid that its definition names.
-use Rattle.std.proofs.Common.{◌≡◌, ℕ, ◌+◌, ◌*◌, ◌/◌, ◌%◌, ◌<◌, ◌≤◌, ◌&&◌, false, cond, eqb, List, map, length, get_or, set, replicate, slice_range, sym, ap, ◌∙◌, subst, inl, inr, arith}
-use Rattle.std.proofs.lemmas.Bool.{eq-eqb, eqb-true, and_from, and_parts, cond-true, cond-false, cases_eq, false_from_ne_true}
+use Rattle.std.proofs.Common.{◌≡◌, ℕ, ◌+◌, ◌-◌, ◌*◌, ◌/◌, ◌%◌, ◌<◌, ◌≤◌, ◌&&◌, Bool, true, false, cond, eqb, leb, ltb, List, map, length, get_or, set, replicate, slice_range, refl, sym, ap, ◌∙◌, subst, inl, inr, arith}
+use Rattle.std.proofs.lemmas.Bool.{eq-eqb, eqb-true, leb-true, ltb-true, and_from, and_parts, cond-true, cond-false, cases_eq, false_from_ne_true}
 use Rattle.std.proofs.lemmas.List.{get_or-map, get_or-replicate, get_or-set_same, get_or-set_other, length-set, length-replicate}
-use Rattle.std.proofs.lemmas.List.Edits.{get_or-between}
+use Rattle.std.proofs.lemmas.List.Elements.{All-from_get_or}
+use Rattle.std.proofs.lemmas.List.Folds.{list_any_none}
+use Rattle.std.proofs.lemmas.List.Edits.{get_or-between, length-between}
 use Rattle.std.proofs.lemmas.Nat.{div-add-mod', div-mul-add, mod-mul-add, mul-add-lt}
 use Rattle.dd_geom.specs.declared.rect.Rect.{Rect}
 use Rattle.dd_geom.specs.declared.rect.Sides.{Sides}
 use Rattle.dd_geom.specs.Rect.{between, has, sides}
 use Rattle.dd_geom.specs.Grid.{Grid, grid}
-use Rattle.dd_geom.proofs.GridLemmas.{grid_from_places, value_at-cell, value_at-place}
+use Rattle.dd_geom.proofs.GridLemmas.{grid_from_places, grid_from_agree, value_at-cell, value_at-place}
 use Rattle.dd_geom.proofs.PaintLemmas.{IsDrawn, IsPainted, grid_from_drawn, grid_from_painted}
-use Rattle.dd_grid.specs.Cell.{Cell, plain, seen_cell}
-use Rattle.dd_grid.specs.Drawing.{cell_at, colour_at, filled, with_colour, taken}
+use Rattle.dd_grid.specs.Cell.{Cell, cell_of, plain, seen_cell}
+use Rattle.dd_grid.specs.Drawing.{ShowsAll, any_hidden, cell_at, colour_at, filled, image_at, place_in, with_colour, taken}
 
 -- cells of one value are the grid of that value
 pub grid_from_replicate :
@@ -88,3 +90,62 @@ taken_from_drawn t r p s old new at_sides from long_old long_new drawn =
     let P : List ℕ → Type 0 = λ cs. IsDrawn t.width s f cs new in
     grid_from_drawn 0 t.width t.height s f t.cells new long_old long_new (subst P from drawn)
     ∙ ap (λ n. grid t.width t.height (λ x y. cond (between n x y) (f x y) (colour_at t x y))) at_sides
+
+-- the cells of a run of colours
+pub get_or-colour_run :
+    (colours : List ℕ) (from to place i : ℕ) (hidden : Bool) (d : Cell) → to ≤ length colours → from + i < to
+    → from + i ≡ place
+    → get_or (map (cell_of hidden) (slice_range colours from to)) i d ≡ cell_of hidden (get_or colours place 0)
+get_or-colour_run colours from to place i hidden d fits across e =
+    let long = length-between colours from to fits in
+    get_or-map (cell_of hidden) (slice_range colours from to) i 0 d (omega arith)
+    ∙ ap (cell_of hidden)
+    (get_or-between colours from to i 0 (omega arith) ∙ ap (λ n. get_or colours n 0) e)
+
+-- a choice whose first value is used only where the test holds
+cond_same : {A : Type 0} (b : Bool) (u v o : A) → (b ≡ true → u ≡ v) → cond b u o ≡ cond b v o
+cond_same true u v o e = e refl
+cond_same false u v o e = refl
+
+-- at a point of the rectangle, the colour of an image is the one at the point's place
+pub image_at-place :
+    (r : Rect) (colours : List ℕ) (x y : ℕ) → has r x y ≡ true
+    → image_at r colours x y ≡ get_or colours (place_in (sides r) x y) 0
+image_at-place r colours x y t =
+    let s : Sides = sides r in
+    let upper = and_parts (leb s.left x && ltb x s.right && leb s.top y) (ltb y s.bottom) t in
+    let lower = and_parts (leb s.left x && ltb x s.right) (leb s.top y) upper.0 in
+    let sideways = and_parts (leb s.left x) (ltb x s.right) lower.0 in
+    let left : s.left ≤ x = leb-true s.left x sideways.0 in
+    let right : x < s.right = ltb-true x s.right sideways.1 in
+    let top : s.top ≤ y = leb-true s.top y lower.1 in
+    let bottom : y < s.bottom = ltb-true y s.bottom upper.1 in
+    value_at-place 0 (s.right - s.left) (s.bottom - s.top) colours (x - s.left) (y - s.top) (omega arith) (omega arith)
+
+-- cells that are drawn with the colours of an image are the picture with that image
+pub image_from_drawn :
+    (p : Grid Cell) (r : Rect) (colours : List ℕ) (hidden : Bool) (s : Sides) (old new : List Cell)
+    → s ≡ sides r → old ≡ p.cells → length p.cells ≡ p.width * p.height → length new ≡ p.width * p.height
+    → IsDrawn p.width s (λ x y. cell_of hidden (get_or colours (place_in s x y) 0)) old new
+    → record { width = p.width; height = p.height; cells = new }
+    ≡ grid p.width p.height (λ x y. cond (has r x y) (cell_of hidden (image_at r colours x y)) (cell_at p x y))
+image_from_drawn p r colours hidden s old new at_sides from long_old long_new drawn =
+    let f : Sides → ℕ → ℕ → Cell = λ n x y. cell_of hidden (get_or colours (place_in n x y) 0) in
+    let g : Sides → ℕ → ℕ → Cell = λ n x y. cond (between n x y) (f n x y) (cell_at p x y) in
+    let P : List Cell → Type 0 = λ cs. IsDrawn p.width s (f s) cs new in
+    grid_from_drawn (plain 0) p.width p.height s (f s) p.cells new long_old long_new (subst P from drawn)
+    ∙ (ap (λ n. grid p.width p.height (g n)) at_sides
+    ∙ grid_from_agree p.width p.height (g (sides r))
+    (λ x y. cond (has r x y) (cell_of hidden (image_at r colours x y)) (cell_at p x y))
+    (λ x y across down.
+    cond_same (has r x y) (f (sides r) x y) (cell_of hidden (image_at r colours x y)) (cell_at p x y)
+    (λ t. ap (cell_of hidden) (sym (image_at-place r colours x y t)))))
+
+-- a picture that shows all has no hidden cell
+pub any_hidden-shows_all :
+    (p : Grid Cell) → length p.cells ≡ p.width * p.height → ShowsAll p → any_hidden p ≡ false
+any_hidden-shows_all p long shows =
+    list_any_none (λ (c : Cell). c.hidden) p.cells
+    (All-from_get_or (λ (c : Cell). c.hidden ≡ false) p.cells (plain 0) (λ k e.
+    ap (λ (c : Cell). c.hidden) (sym (value_at-cell (plain 0) p.width p.height p.cells k (omega arith)))
+    ∙ shows (k % p.width) (k / p.width)))

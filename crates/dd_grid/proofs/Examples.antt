@@ -1,9 +1,10 @@
 -- Small pictures, drawn by the definitions.
-use Rattle.std.proofs.Common.{◌≡◌, ℕ, true, pos, [], ◌∷◌, refl}
+use Rattle.std.proofs.Common.{◌≡◌, ℕ, true, false, pos, [], ◌∷◌, refl}
 use Rattle.dd_geom.specs.declared.rect.Rect.{Rect}
+use Rattle.dd_geom.specs.declared.rect.Move.{Move}
 use Rattle.dd_geom.specs.Grid.{Grid, rows}
 use Rattle.dd_grid.specs.Cell.{Cell, plain}
-use Rattle.dd_grid.specs.Drawing.{black, filled, seen, blank, with_colour, taken}
+use Rattle.dd_grid.specs.Drawing.{black, filled, blitted, covered, moved_cells, any_hidden, cell_at, seen, blank, with_colour, taken, moved}
 
 abbrev rect : ℕ → ℕ → ℕ → ℕ → Rect
 rect l t r b = record { left = pos l; top = pos t; right = pos r; bottom = pos b }
@@ -31,3 +32,55 @@ taken_part :
     rows (taken (with_colour (blank 4 3) 0 2 5) (rect 2 1 4 3) two)
     ≡ (0 ∷ 0 ∷ 0 ∷ 0 ∷ []) ∷ (0 ∷ 0 ∷ 7 ∷ 7 ∷ []) ∷ (5 ∷ 0 ∷ 0 ∷ 0 ∷ []) ∷ []
 taken_part = refl
+
+-- an image is drawn upright, row by row from its top left corner
+abbrev drawn : Grid Cell
+drawn = blitted (black 4 3) (rect 1 0 3 2) (1 ∷ 2 ∷ 3 ∷ 4 ∷ [])
+
+upright : rows (seen drawn) ≡ (0 ∷ 1 ∷ 2 ∷ 0 ∷ []) ∷ (0 ∷ 3 ∷ 4 ∷ 0 ∷ []) ∷ (0 ∷ 0 ∷ 0 ∷ 0 ∷ []) ∷ []
+upright = refl
+
+nothing_hidden : any_hidden drawn ≡ false
+nothing_hidden = refl
+
+-- a cover hides its colours, which the cells keep
+abbrev hid : Grid Cell
+hid = covered drawn (rect 2 1 4 2) (8 ∷ 9 ∷ [])
+
+seen_black : rows (seen hid) ≡ (0 ∷ 1 ∷ 2 ∷ 0 ∷ []) ∷ (0 ∷ 3 ∷ 0 ∷ 0 ∷ []) ∷ (0 ∷ 0 ∷ 0 ∷ 0 ∷ []) ∷ []
+seen_black = refl
+
+colour_kept : (cell_at hid 3 1).colour ≡ 9
+colour_kept = refl
+
+some_hidden : any_hidden hid ≡ true
+some_hidden = refl
+
+-- a fill over one of the two hidden cells leaves the other hidden, a fill over both none
+one_left : any_hidden (filled hid (rect 3 0 4 3) 5) ≡ true
+one_left = refl
+
+none_left : any_hidden (filled hid (rect 2 1 4 2) 5) ≡ false
+none_left = refl
+
+-- one column to the right and one row down, over a part of what is copied
+abbrev right_and_down : Move
+right_and_down = record { source = record { x = pos 0; y = pos 0 }; dest = rect 1 1 4 3 }
+
+abbrev numbered : Grid ℕ
+numbered =
+    record { width = 4; height = 3; cells = 1 ∷ 2 ∷ 3 ∷ 4 ∷ 5 ∷ 6 ∷ 7 ∷ 8 ∷ 9 ∷ 10 ∷ 11 ∷ 12 ∷ [] }
+
+overlapping_move :
+    rows (moved numbered right_and_down)
+    ≡ (1 ∷ 2 ∷ 3 ∷ 4 ∷ []) ∷ (5 ∷ 1 ∷ 2 ∷ 3 ∷ []) ∷ (9 ∷ 5 ∷ 6 ∷ 7 ∷ []) ∷ []
+overlapping_move = refl
+
+-- a picture's cells move whole: a hidden one stays hidden at its new place
+hidden_moves :
+    rows (seen (moved_cells hid right_and_down))
+    ≡ (0 ∷ 1 ∷ 2 ∷ 0 ∷ []) ∷ (0 ∷ 0 ∷ 1 ∷ 2 ∷ []) ∷ (0 ∷ 0 ∷ 3 ∷ 0 ∷ []) ∷ []
+hidden_moves = refl
+
+hidden_at_its_new_place : cell_at (moved_cells hid right_and_down) 3 2 ≡ record { colour = 8; hidden = true }
+hidden_at_its_new_place = refl

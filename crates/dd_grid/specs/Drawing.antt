@@ -1,9 +1,12 @@
 -- What each operation draws, point by point.
-use Rattle.std.specs.Prelude.{◌≡◌, ℕ, ◌*◌, ◌^◌, ◌<◌, ◌&&◌, ◌==◌, length, All, if◌then◌else◌}
+use Rattle.std.specs.Prelude.{◌≡◌, ℕ, ◌+◌, ◌-◌, ◌*◌, ◌^◌, ◌<◌, Bool, false, ◌&&◌, ◌==◌, List, length, All, if◌then◌else◌}
+use Rattle.std.specs.List.{list_any}
 use Rattle.dd_geom.specs.declared.rect.Rect.{Rect}
-use Rattle.dd_geom.specs.Rect.{IsSize, has}
-use Rattle.dd_geom.specs.Grid.{Grid, grid, value_at}
-use Rattle.dd_grid.specs.Cell.{Cell, plain, seen_cell}
+use Rattle.dd_geom.specs.declared.rect.Move.{Move}
+use Rattle.dd_geom.specs.declared.rect.Sides.{Sides}
+use Rattle.dd_geom.specs.Rect.{IsSize, has, place}
+use Rattle.dd_geom.specs.Grid.{Grid, grid, value_at, scrolled}
+use Rattle.dd_grid.specs.Cell.{Cell, plain, covered_cell, seen_cell}
 
 -- a picture has a size that a surface may have, and a cell for each point
 pub record IsPicture (p : Grid Cell) : Type 0 where
@@ -28,6 +31,39 @@ black w h = grid w h (λ _ _. plain 0)
 abbrev pub filled : Grid Cell → Rect → ℕ → Grid Cell
 filled p r c = grid p.width p.height (λ x y. if has r x y then plain c else cell_at p x y)
 
+-- colours for the points of a rectangle, row by row
+abbrev pub image : Rect → List ℕ → Grid ℕ
+image r colours = record { width = place r.right - place r.left; height = place r.bottom - place r.top; cells = colours }
+
+-- the place of a point between four sides, row by row
+abbrev pub place_in : Sides → ℕ → ℕ → ℕ
+place_in s x y = (y - s.top) * (s.right - s.left) + (x - s.left)
+
+-- the colour of an image for a point of its rectangle
+abbrev pub image_at : Rect → List ℕ → ℕ → ℕ → ℕ
+image_at r colours x y = value_at 0 (image r colours) (x - place r.left) (y - place r.top)
+
+-- an image drawn in a rectangle: plain cells, or hidden ones
+abbrev pub blitted : Grid Cell → Rect → List ℕ → Grid Cell
+blitted p r colours =
+    grid p.width p.height (λ x y. if has r x y then plain (image_at r colours x y) else cell_at p x y)
+
+abbrev pub covered : Grid Cell → Rect → List ℕ → Grid Cell
+covered p r colours =
+    grid p.width p.height (λ x y. if has r x y then covered_cell (image_at r colours x y) else cell_at p x y)
+
+-- a move of whole cells
+abbrev pub moved_cells : Grid Cell → Move → Grid Cell
+moved_cells = scrolled (plain 0)
+
+-- whether some cell is hidden
+abbrev pub any_hidden : Grid Cell → Bool
+any_hidden p = list_any (λ c. c.hidden) p.cells
+
+-- no cell is hidden
+abbrev pub ShowsAll : Grid Cell → Type 0
+ShowsAll p = (x y : ℕ) → (cell_at p x y).hidden ≡ false
+
 -- what is seen of a picture
 abbrev pub seen : Grid Cell → Grid ℕ
 seen p = grid p.width p.height (λ x y. seen_cell (cell_at p x y))
@@ -48,3 +84,7 @@ with_colour s x y c =
 -- what is seen of a picture, copied inside a rectangle
 abbrev pub taken : Grid ℕ → Rect → Grid Cell → Grid ℕ
 taken s r p = grid s.width s.height (λ x y. if has r x y then seen_cell (cell_at p x y) else colour_at s x y)
+
+-- a move of a surface's colours
+abbrev pub moved : Grid ℕ → Move → Grid ℕ
+moved = scrolled 0

@@ -32,7 +32,7 @@ impl Model for Pixel {
 }
 
 impl Pixel {
-    ghost use Rattle.dd_grid.specs.Cell.{plain, seen_cell};
+    ghost use Rattle.dd_grid.specs.Cell.{cell_of, plain, seen_cell};
 
     /// A plain cell of a colour.
     pub(crate) fn plain(colour: u32) -> Pixel
@@ -40,6 +40,17 @@ impl Pixel {
         ensures { result ≡ plain colour }
     {
         Pixel { bits: colour }
+    }
+
+    /// A cell of a colour, plain or hidden.
+    pub(crate) fn new(colour: u32, hidden: bool) -> Pixel
+        requires { colour < 2 ^ 24 }
+        ensures { result ≡ cell_of hidden colour }
+    {
+        let mark = if hidden { HIDDEN } else { 0 };
+        Pixel {
+            bits: mark + colour,
+        }
     }
 
     /// The colour, shown or not.

@@ -2,6 +2,7 @@
 #![tactic(auto)]
 
 mod cell;
+mod drawing;
 mod picture;
 mod surface;
 #[cfg(test)]

@@ -1,19 +1,26 @@
 //! A picture: a cell for each point, row by row, drawn in place.
 
 ghost use Rattle.std.specs.Prelude.{◌≡◌, ◌+◌, ◌*◌, ◌^◌, ◌<◌, ◌≤◌, length, slice_range, IsTrue, IfOk};
-ghost use Rattle.dd_geom.specs.Rect.{IsSize, is_inside};
+ghost use Rattle.std.specs.Prelude.{ℕ, All, map, false};
+ghost use Rattle.std.specs.List.{list_any};
+ghost use Rattle.dd_geom.specs.Rect.{IsSize, AreInside, is_inside, is_move_inside, points};
 
 use crate::cell::Pixel;
-use dd_geom::{Rect, paint, sides_of};
+use crate::drawing::write_image;
+use dd_geom::{Move, Rect, paint, scroll, sides_of};
 use std::alloc::{AllocError, Global};
 use std::marker::Model;
 
 /// A picture of a size that a surface may have, with exactly one cell of 4 bytes for each point.
+///
+/// No cell is hidden where nothing was ever covered.
 #[derive(Debug, Drop)]
 pub struct Picture {
     width: u32,
     height: u32,
     cells: Vec<Pixel>,
+    /// Whether something was covered, now or before.
+    covered: bool,
 }
 
 impl Model for Picture {
@@ -22,16 +29,25 @@ impl Model for Picture {
 
     ghost Value = { Grid Cell };
 
-    ghost use Rattle.dd_grid.specs.Drawing.{IsPicture};
+    ghost use Rattle.std.specs.Prelude.{◌≡◌, false};
+    ghost use Rattle.dd_grid.specs.Drawing.{IsPicture, ShowsAll};
 
     ghost view = { λ p. record { width = p.width; height = p.height; cells = p.cells.items } };
 
-    ghost invariant = { λ p. IsPicture (record { width = p.width; height = p.height; cells = p.cells.items }) };
+    ghost invariant = { λ p. IsPicture (record { width = p.width; height = p.height; cells = p.cells.items })
+        × (p.covered ≡ false → ShowsAll (record { width = p.width; height = p.height; cells = p.cells.items })) };
+}
+
+/// Whether some cell is hidden.
+fn some_hidden(cells: &[Pixel]) -> bool
+    ensures { result ≡ list_any (λ c. c.hidden) cells.now }
+{
+    cells.iter().any(|cell| cell.is_hidden())
 }
 
 impl Picture {
     ghost use Rattle.dd_grid.specs.Cell.{seen_cell};
-    ghost use Rattle.dd_grid.specs.Drawing.{IsPicture, black, filled, cell_at};
+    ghost use Rattle.dd_grid.specs.Drawing.{IsPicture, black, filled, blitted, covered, moved_cells, any_hidden, cell_at};
 
     /// A picture of `w` by `h` black, plain cells.
     pub fn new(alloc: Global, w: u32, h: u32) -> Result<Picture, AllocError>
@@ -43,6 +59,7 @@ impl Picture {
             width: w,
             height: h,
             cells,
+            covered: false,
         })
     }
 
@@ -72,6 +89,56 @@ impl Picture {
         let height = self.height as usize;
         let sides = sides_of(r);
         paint(&mut self.cells, width, height, sides, Pixel::plain(colour));
+    }
+
+    /// Draws an image in a rectangle, with plain cells: one colour for each point, row by row.
+    pub fn blit(&mut self, r: Rect, colours: &[u32])
+        requires inside { IsTrue (is_inside r self.old.width self.old.height) }
+        requires colours { All (λ c. c < 2 ^ 24) colours.now }
+        requires count { length colours.now ≡ points r }
+        ensures drawn { self.new ≡ blitted self.old r colours.now }
+        ensures width { self.new.width ≡ self.old.width }
+        ensures height { self.new.height ≡ self.old.height }
+    {
+        let width = self.width as usize;
+        let height = self.height as usize;
+        write_image(&mut self.cells, width, height, sides_of(r), colours, false);
+    }
+
+    /// Draws an image in a rectangle, with hidden cells: one colour for each point, row by row.
+    pub fn cover(&mut self, r: Rect, colours: &[u32])
+        requires inside { IsTrue (is_inside r self.old.width self.old.height) }
+        requires colours { All (λ c. c < 2 ^ 24) colours.now }
+        requires count { length colours.now ≡ points r }
+        ensures drawn { self.new ≡ covered self.old r colours.now }
+        ensures width { self.new.width ≡ self.old.width }
+        ensures height { self.new.height ≡ self.old.height }
+    {
+        let width = self.width as usize;
+        let height = self.height as usize;
+        self.covered = true;
+        write_image(&mut self.cells, width, height, sides_of(r), colours, true);
+    }
+
+    /// Copies whole cells to the move's destination, as if through a copy of them: source and
+    /// destination may overlap.
+    pub fn scroll(&mut self, m: Move)
+        requires inside { IsTrue (is_move_inside m self.old.width self.old.height) }
+        ensures drawn { self.new ≡ moved_cells self.old m }
+        ensures width { self.new.width ≡ self.old.width }
+        ensures height { self.new.height ≡ self.old.height }
+    {
+        let width = self.width as usize;
+        let height = self.height as usize;
+        scroll(&mut self.cells, width, height, m);
+    }
+
+    /// Whether some cell is hidden. Where nothing was ever covered no cell is looked at.
+    pub fn any_hidden(&self) -> bool
+        ensures value { result ≡ any_hidden self.now }
+        ensures picture { IsPicture self.now }
+    {
+        self.covered && some_hidden(&self.cells)
     }
 
     /// The cell at a point.

@@ -2,14 +2,14 @@
 
 ghost use Rattle.std.specs.Prelude.{◌≡◌, ℕ, ◌*◌, ◌/◌, ◌%◌, ◌^◌, ◌<◌, length, map, All, IsTrue, IfOk};
 ghost use Rattle.std.specs.Prelude.{slice_index_or, if◌then◌else◌};
-ghost use Rattle.dd_geom.specs.Rect.{IsSize, AreInside, between, is_inside};
+ghost use Rattle.dd_geom.specs.Rect.{IsSize, AreInside, between, is_inside, is_move_inside};
 ghost use Rattle.dd_geom.specs.Grid.{row};
 ghost use Rattle.dd_grid.specs.Cell.{seen_cell};
 ghost use Rattle.dd_grid.specs.Drawing.{cell_at};
 
 use crate::cell::Pixel;
 use crate::picture::Picture;
-use dd_geom::{Rect, Sides, sides_of};
+use dd_geom::{Move, Rect, Sides, scroll, sides_of};
 use std::alloc::{AllocError, Global};
 use std::marker::Model;
 
@@ -64,7 +64,7 @@ fn take_rows(colours: &mut [u32], width: usize, height: usize, sides: Sides, fro
 }
 
 impl Surface {
-    ghost use Rattle.dd_grid.specs.Drawing.{IsSurface, blank, with_colour, taken};
+    ghost use Rattle.dd_grid.specs.Drawing.{IsSurface, blank, with_colour, taken, moved};
 
     /// A surface of `w` by `h` black points.
     pub fn new(alloc: Global, w: u32, h: u32) -> Result<Surface, AllocError>
@@ -113,6 +113,19 @@ impl Surface {
         ensures height { self.new.height ≡ self.old.height }
     {
         self.colours[y as usize * self.width as usize + x as usize] = colour;
+    }
+
+    /// Copies colours to the move's destination, as if through a copy of them: source and
+    /// destination may overlap.
+    pub fn scroll(&mut self, m: Move)
+        requires inside { IsTrue (is_move_inside m self.old.width self.old.height) }
+        ensures drawn { self.new ≡ moved self.old m }
+        ensures width { self.new.width ≡ self.old.width }
+        ensures height { self.new.height ≡ self.old.height }
+    {
+        let width = self.width as usize;
+        let height = self.height as usize;
+        scroll(&mut self.colours, width, height, m);
     }
 
     /// Copies what is seen of a picture inside a rectangle.

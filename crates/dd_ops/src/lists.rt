@@ -35,7 +35,7 @@ fn copies(alloc: Global, ops: &[Op]) -> Result<Vec<Op>, AllocError>
 {
     let mut items = Vec::with_capacity(alloc, ops.len())?;
     for op in ops {
-        items.push(op.copy())?;
+        items.push(op.copy()?)?;
     }
     Ok(items)
 }
@@ -132,5 +132,13 @@ impl Colours {
         ensures { result.now ≡ self.now }
     {
         self.items.as_slice()
+    }
+
+    /// An equal list, on memory of its own.
+    pub fn copy(&self) -> Result<Colours, AllocError>
+        ensures { IfOk result (λ colours. colours ≡ self.now) }
+    {
+        let items = Vec::from_slice(*self.items.allocator(), self.as_slice())?;
+        Ok(Colours { items })
     }
 }

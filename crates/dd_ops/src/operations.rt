@@ -1,11 +1,13 @@
 //! One drawing operation, and whether it fits a surface.
 
-ghost use Rattle.std.specs.Prelude.{◌≡◌, IsTrue};
+ghost use Rattle.std.specs.Prelude.{◌≡◌, IsTrue, IfOk};
+ghost use Rattle.dd_ops.specs.Operations.{are_colours as are_all_colours, is_image as is_an_image};
 ghost use Rattle.dd_ops.specs.Operations.{fits as fits_surface, all_fit, drawn_by, drawn};
 
-use crate::lists::Ops;
-use dd_geom::{Rect, rect_inside};
+use crate::lists::{Colours, Ops};
+use dd_geom::{Move, Rect, move_inside, point_count, rect_inside};
 use dd_grid::Picture;
+use std::alloc::AllocError;
 
 /// One past the greatest colour: red, green and blue take 8 bits each, red uppermost.
 pub const COLOURS: u32 = 0x100_0000;
@@ -15,29 +17,61 @@ pub const COLOURS: u32 = 0x100_0000;
 pub enum Op {
     /// Draws one colour over a rectangle.
     Fill { rect: Rect, colour: u32 },
+    /// Draws an image over a rectangle: a colour for each of its points, row by row.
+    Blit { rect: Rect, colours: Colours },
+    /// Draws an image over a rectangle, and hides it: it is seen as black.
+    Cover { rect: Rect, colours: Colours },
+    /// Copies what stands at the move's source to its destination, hidden points too.
+    Scroll { mv: Move },
 }
 
 impl Op {
-    /// An equal operation.
-    pub fn copy(&self) -> Op
-        ensures { result ≡ self.now }
+    /// An equal operation, on memory of its own.
+    pub fn copy(&self) -> Result<Op, AllocError>
+        ensures { IfOk result (λ op. op ≡ self.now) }
     {
         match self {
-            Op::Fill { rect, colour } => Op::Fill {
+            Op::Fill { rect, colour } => Ok(Op::Fill {
                 rect: *rect,
                 colour: *colour,
-            },
+            }),
+            Op::Blit { rect, colours } => Ok(Op::Blit {
+                rect: *rect,
+                colours: colours.copy()?,
+            }),
+            Op::Cover { rect, colours } => Ok(Op::Cover {
+                rect: *rect,
+                colours: colours.copy()?,
+            }),
+            Op::Scroll { mv } => Ok(Op::Scroll { mv: *mv }),
         }
     }
 }
 
-/// Whether the operation may be drawn on a surface of this size: its rectangle lies inside, and
-/// its colours are below 2^24.
+/// Whether each of them is a colour.
+fn are_colours(colours: &[u32]) -> bool
+    ensures { result ≡ are_all_colours colours.now }
+{
+    colours.iter().all(|colour| *colour < COLOURS)
+}
+
+/// Whether the colours are an image for a rectangle of a surface of this size.
+fn is_image(rect: Rect, colours: &[u32], w: u32, h: u32) -> bool
+    ensures { result ≡ is_an_image w h rect colours.now }
+{
+    rect_inside(rect, w, h) && colours.len() == point_count(rect) && are_colours(colours)
+}
+
+/// Whether the operation may be drawn on a surface of this size: its rectangle or move lies inside,
+/// its colours are below 2^24, and an image has one for each point.
 pub fn fits(op: &Op, w: u32, h: u32) -> bool
     ensures { result ≡ fits_surface w h op.now }
 {
     match op {
         Op::Fill { rect, colour } => rect_inside(*rect, w, h) && *colour < COLOURS,
+        Op::Blit { rect, colours } => is_image(*rect, colours.as_slice(), w, h),
+        Op::Cover { rect, colours } => is_image(*rect, colours.as_slice(), w, h),
+        Op::Scroll { mv } => move_inside(*mv, w, h),
     }
 }
 
@@ -50,6 +84,9 @@ fn draw(p: &mut Picture, op: &Op)
 {
     match op {
         Op::Fill { rect, colour } => p.fill(*rect, *colour),
+        Op::Blit { rect, colours } => p.blit(*rect, colours.as_slice()),
+        Op::Cover { rect, colours } => p.cover(*rect, colours.as_slice()),
+        Op::Scroll { mv } => p.scroll(*mv),
     }
 }
 

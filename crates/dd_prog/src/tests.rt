@@ -161,6 +161,155 @@ fn answers_to_the_byte(rt: HostRuntime) -> Result<(), Fail> {
     Ok(())
 }
 
+const DOWN: &str = r#"{"present":[{"scroll":[0,1,4,2],"from":[0,0]}]}"#;
+
+#[test]
+fn moves_to_the_byte(rt: HostRuntime) -> Result<(), Fail> {
+    let alloc = rt.alloc();
+    let cases: [(&str, &[&str], &[&str]); 7] = [
+        (
+            "a scroll of what is clean is a move and leaves no dirt",
+            &[
+                OPEN,
+                FILL,
+                ACQUIRE,
+                SURFACE,
+                RELEASE,
+                r#"{"present":[{"scroll":[2,0,4,1],"from":[0,0]}]}"#,
+                ACQUIRE,
+            ],
+            &[
+                OPENED,
+                r#"{"entry":2}"#,
+                FILLED,
+                ROWS,
+                r#"{"released":true}"#,
+                r#"{"entry":3}"#,
+                r#"{"dirty":[],"frame":{"accumulated":1,"coalesced":false,"meta":24,"mouse":0,"pointer":[0,0],"present":3,"protected":false,"shape":0,"visible":false},"moves":[[0,0,2,0,4,1]]}"#,
+            ],
+        ),
+        (
+            "a scroll over itself carries the dirt of its source along",
+            &[
+                OPEN,
+                r#"{"present":[{"fill":[0,0,2,1],"colour":"ff0000"}]}"#,
+                r#"{"present":[{"scroll":[1,0,3,1],"from":[0,0]}]}"#,
+                ACQUIRE,
+                SURFACE,
+            ],
+            &[
+                OPENED,
+                r#"{"entry":2}"#,
+                r#"{"entry":3}"#,
+                r#"{"dirty":[[0,0,3,1]],"frame":{"accumulated":2,"coalesced":false,"meta":40,"mouse":0,"pointer":[0,0],"present":3,"protected":false,"shape":0,"visible":false},"moves":[[0,0,1,0,3,1]]}"#,
+                r#"{"surface":["ff0000ff0000ff0000000000","000000000000000000000000","000000000000000000000000"]}"#,
+            ],
+        ),
+        (
+            "no dirt stays under a destination whose source is clean",
+            &[
+                OPEN,
+                r#"{"present":[{"fill":[2,0,3,1],"colour":"ff0000"}]}"#,
+                r#"{"present":[{"scroll":[2,0,3,1],"from":[0,0]}]}"#,
+                ACQUIRE,
+            ],
+            &[
+                OPENED,
+                r#"{"entry":2}"#,
+                r#"{"entry":3}"#,
+                r#"{"dirty":[],"frame":{"accumulated":2,"coalesced":false,"meta":24,"mouse":0,"pointer":[0,0],"present":3,"protected":false,"shape":0,"visible":false},"moves":[[0,0,2,0,3,1]]}"#,
+            ],
+        ),
+        (
+            "sixteen scrolls are moves, and the seventeenth is a draw of its destination",
+            &[
+                OPEN, DOWN, DOWN, DOWN, DOWN, DOWN, DOWN, DOWN, DOWN, DOWN, DOWN, DOWN, DOWN, DOWN,
+                DOWN, DOWN, DOWN, DOWN, ACQUIRE,
+            ],
+            &[
+                OPENED,
+                r#"{"entry":2}"#,
+                r#"{"entry":3}"#,
+                r#"{"entry":4}"#,
+                r#"{"entry":5}"#,
+                r#"{"entry":6}"#,
+                r#"{"entry":7}"#,
+                r#"{"entry":8}"#,
+                r#"{"entry":9}"#,
+                r#"{"entry":10}"#,
+                r#"{"entry":11}"#,
+                r#"{"entry":12}"#,
+                r#"{"entry":13}"#,
+                r#"{"entry":14}"#,
+                r#"{"entry":15}"#,
+                r#"{"entry":16}"#,
+                r#"{"entry":17}"#,
+                r#"{"entry":18}"#,
+                r#"{"dirty":[[0,1,4,2]],"frame":{"accumulated":17,"coalesced":false,"meta":400,"mouse":0,"pointer":[0,0],"present":18,"protected":false,"shape":0,"visible":false},"moves":[[0,0,0,1,4,2],[0,0,0,1,4,2],[0,0,0,1,4,2],[0,0,0,1,4,2],[0,0,0,1,4,2],[0,0,0,1,4,2],[0,0,0,1,4,2],[0,0,0,1,4,2],[0,0,0,1,4,2],[0,0,0,1,4,2],[0,0,0,1,4,2],[0,0,0,1,4,2],[0,0,0,1,4,2],[0,0,0,1,4,2],[0,0,0,1,4,2],[0,0,0,1,4,2]]}"#,
+            ],
+        ),
+        (
+            "a fill one column past the right side is refused, and nothing is new",
+            &[
+                OPEN,
+                r#"{"present":[{"fill":[3,0,5,1],"colour":"ff0000"}]}"#,
+                ACQUIRE,
+            ],
+            &[
+                OPENED,
+                r#"{"code":"80070057","op":0,"refused":"BadRect"}"#,
+                NOTHING_NEW,
+            ],
+        ),
+        (
+            "an image stands upright at its place; one of too few colours is refused, by its place in the present",
+            &[
+                OPEN,
+                r#"{"present":[{"blit":[1,0,3,2],"colours":"000001000002000003000004"}]}"#,
+                r#"{"present":[{"fill":[0,0,1,1],"colour":"ff0000"},{"blit":[0,0,2,1],"colours":"000001"}]}"#,
+                ACQUIRE,
+                SURFACE,
+            ],
+            &[
+                OPENED,
+                r#"{"entry":2}"#,
+                r#"{"code":"80070057","op":1,"refused":"BadRect"}"#,
+                r#"{"dirty":[[1,0,3,1],[1,1,3,2]],"frame":{"accumulated":1,"coalesced":false,"meta":32,"mouse":0,"pointer":[0,0],"present":2,"protected":false,"shape":0,"visible":false},"moves":[]}"#,
+                r#"{"surface":["000000000001000002000000","000000000003000004000000","000000000000000000000000"]}"#,
+            ],
+        ),
+        (
+            "two moves of one frame, the second of what the first brought",
+            &[
+                OPEN,
+                r#"{"present":[{"fill":[0,0,1,1],"colour":"ff0000"}]}"#,
+                ACQUIRE,
+                RELEASE,
+                r#"{"present":[{"scroll":[1,0,2,1],"from":[0,0]}]}"#,
+                r#"{"present":[{"scroll":[3,2,4,3],"from":[1,0]}]}"#,
+                ACQUIRE,
+                SURFACE,
+            ],
+            &[
+                OPENED,
+                r#"{"entry":2}"#,
+                r#"{"dirty":[[0,0,1,1]],"frame":{"accumulated":1,"coalesced":false,"meta":16,"mouse":0,"pointer":[0,0],"present":2,"protected":false,"shape":0,"visible":false},"moves":[]}"#,
+                r#"{"released":true}"#,
+                r#"{"entry":3}"#,
+                r#"{"entry":4}"#,
+                r#"{"dirty":[],"frame":{"accumulated":2,"coalesced":false,"meta":48,"mouse":0,"pointer":[0,0],"present":4,"protected":false,"shape":0,"visible":false},"moves":[[0,0,1,0,2,1],[1,0,3,2,4,3]]}"#,
+                r#"{"surface":["ff0000ff0000000000000000","000000000000000000000000","000000000000000000ff0000"]}"#,
+            ],
+        ),
+    ];
+    for (name, steps, want) in cases {
+        let (status, sink) = replayed(alloc, script(alloc, steps)?, 4096, &[], &[])?;
+        assert_eq!(rt; status, Status::Done, "{name}");
+        assert_eq!(rt; sink.bytes(), lines(alloc, want)?.as_bytes(), "{name}");
+    }
+    Ok(())
+}
+
 #[test]
 fn other_words_read_nothing(rt: HostRuntime) -> Result<(), Fail> {
     let alloc = rt.alloc();

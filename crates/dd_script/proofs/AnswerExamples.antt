@@ -34,6 +34,10 @@ filled = record { left = pos 1; top = pos 1; right = pos 3; bottom = pos 2 }
 abbrev scrolled : Move
 scrolled = record { source = record { x = negsuc 0; y = pos 3 }; dest = record { left = pos 2; top = pos 0; right = pos 4; bottom = pos 1 } }
 
+-- the left half of a row, copied to the right half
+abbrev moved : Move
+moved = record { source = record { x = pos 0; y = pos 0 }; dest = record { left = pos 2; top = pos 0; right = pos 4; bottom = pos 1 } }
+
 frame_of_a_present : answer_tree (answer.Frame told [] (filled ∷ []))
     ≡ object
     (member (codes "dirty")
@@ -83,3 +87,8 @@ line_of_a_surface = refl
 lines_in_turn : text (answer.Released ∷ answer.Surface None ∷ []) ≡ codes "{\"released\":true}" ++ 10 ∷ [] ++ codes "{\"surface\":null}" ++ 10 ∷ []
 unfolding text line answer_tree surface_tree serde_json_on_literals
 lines_in_turn = refl
+
+-- a scroll, told as one move
+line_of_a_move : line (answer.Frame (record told { last_present = 3; meta_size = 24 }) (moved ∷ []) []) ≡ codes "{\"dirty\":[],\"frame\":{\"accumulated\":1,\"coalesced\":false,\"meta\":24,\"mouse\":0,\"pointer\":[0,0],\"present\":3,\"protected\":false,\"shape\":0,\"visible\":false},\"moves\":[[0,0,2,0,4,1]]}" ++ 10 ∷ []
+unfolding line answer_tree frame_tree info_tree point_tree rect_tree move_tree digits serde_json_on_literals
+line_of_a_move = refl

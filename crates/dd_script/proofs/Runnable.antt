@@ -5,12 +5,11 @@ use Rattle.std.specs.List.{list_all, AllByRecursion}
 use Rattle.std.proofs.lemmas.Bool.{and_parts, leb-true, ltb-true}
 use Rattle.std.proofs.lemmas.Option.{cond_some, option_and_then_some}
 use Rattle.serde_json.specs.Data.{Data}
-use Rattle.dd_modes.specs.Modes.{first_mode}
 use Rattle.dd_station.specs.declared.steps.Step.{Step}
 use Rattle.dd_station.specs.declared.steps.Step.TheVariants.{Draw, Call}
 use Rattle.dd_station.specs.declared.steps.Script.{Script}
 use Rattle.dd_script.specs.declared.reading.limits.TheConstants.{MAX_CAPACITY, MAX_CLIENTS, MAX_PRIVILEGED}
-use Rattle.dd_script.specs.Script.{form_of, script_of, has_client, keeps_limits, opens_first, lies_inside, has_one_duplicator, IsRunnable}
+use Rattle.dd_script.specs.Script.{form_of, script_of, has_client, keeps_limits, opens_first, has_one_duplicator, IsRunnable}
 use Rattle.dd_station.specs.Run.{IsOfClient}
 
 of_client : (n : ℕ) (s : Step) → has_client n s ≡ true → IsOfClient n s
@@ -24,8 +23,7 @@ of_clients n (s ∷ ss) h = let p = and_parts (has_client n s) (list_all (has_cl
 has_room : (s : Script) → has_one_duplicator s ≡ true → length s.steps < s.spec.capacity
 unfolding has_one_duplicator
 has_room s h =
-    let drawn = and_parts _ (list_all (lies_inside (first_mode s.spec.modes)) s.steps) h in
-    let opened = and_parts _ (opens_first s.steps) drawn.0 in
+    let opened = and_parts _ (opens_first s.steps) h in
     let room = and_parts _ (nat_lt (length s.steps) s.spec.capacity) opened.0 in
     ltb-true _ _ room.1
 

@@ -1,22 +1,22 @@
 -- Which JSON trees are scripts, and of which script: one definition for each form, in the order of its parts.
-use Rattle.std.specs.Prelude.{ℕ, zero, suc, ◌^◌, ◌≤◌, ◌<◌, ◌-◌, ℤ, pos, negsuc, int_le, nat_lt, nat_le, ◌==◌, Bool, true, false, ◌&&◌, not, if◌then◌else◌, codes, List, [], ◌∷◌, length, Option, Some, None, is_some, option_map, option_and_then}
+use Rattle.std.specs.Prelude.{ℕ, zero, suc, ◌^◌, ◌≤◌, ◌<◌, ◌+◌, ◌-◌, ◌*◌, ◌/◌, ◌%◌, ℤ, pos, negsuc, int_le, nat_lt, nat_le, ◌==◌, Bool, true, false, ◌&&◌, not, if◌then◌else◌, codes, List, [], ◌∷◌, length, map, slice_index_or, Option, Some, None, is_some, option_map, option_and_then}
 use Rattle.std.specs.Option.{option_map_or}
 use Rattle.std.specs.Result.{result_ok}
-use Rattle.std.specs.List.{list_all, AllByRecursion}
+use Rattle.std.specs.List.{list_all, range_with_len, AllByRecursion}
 use Rattle.std.specs.Int.{w32, from_be_bytes}
 use Rattle.std.specs.Str.{bytes_eq}
 use Rattle.serde_json.specs.Data.{Data, Items, no_items, item, Members, no_members, member}
 use Rattle.serde_json.specs.Find.{get, at, as_number, as_u64, as_i64, as_str, as_array, as_object}
-use Rattle.hex.specs.Hex.{decode_sized}
+use Rattle.hex.specs.Hex.{decode_of, decode_sized}
+use Rattle.dd_geom.specs.declared.rect.Point.{Point}
 use Rattle.dd_geom.specs.declared.rect.Rect.{Rect}
 use Rattle.dd_modes.specs.declared.modes.Mode.{Mode}
 use Rattle.dd_modes.specs.declared.modes.Rotation.{Rotation}
 use Rattle.dd_modes.specs.declared.modes.Rotation.TheVariants.{Unspecified, Identity, Rotate90, Rotate180, Rotate270}
-use Rattle.dd_modes.specs.Modes.{are_modes, first_mode}
+use Rattle.dd_modes.specs.Modes.{are_modes}
 use Rattle.dd_ops.specs.declared.operations.Op.{Op}
-use Rattle.dd_ops.specs.declared.operations.Op.TheVariants.{Fill}
+use Rattle.dd_ops.specs.declared.operations.Op.TheVariants.{Fill, Blit, Scroll}
 use Rattle.dd_ops.specs.declared.lists.TheConstants.{MAX_OPS}
-use Rattle.dd_ops.specs.Operations.{all_fit}
 use Rattle.dd_log.specs.declared.events.Draw as draws
 use Rattle.dd_log.specs.declared.events.Draw.TheVariants.{Present}
 use Rattle.dd_station.specs.declared.steps.ClientCall.{ClientCall}
@@ -89,6 +89,13 @@ rect_of d = if has_items 4 d then (do
   bottom ← at 3 d >>= i32_of
   Some (record { left = left; top = top; right = right; bottom = bottom })) else None
 
+-- [x, y]
+unfoldable pub point_of : Data → Option Point
+point_of d = if has_items 2 d then (do
+  x ← at 0 d >>= i32_of
+  y ← at 1 d >>= i32_of
+  Some (record { x = x; y = y })) else None
+
 -- six hexadecimal digits: red, green, blue
 unfoldable pub colour_of : Data → Option ℕ
 colour_of d = do
@@ -96,12 +103,55 @@ colour_of d = do
   channels ← result_ok (decode_sized text 3)
   Some (from_be_bytes w32 (0 ∷ channels))
 
+-- the colour numbered i of bytes that are red, green and blue in turn
+abbrev pub colour_at : List ℕ → ℕ → ℕ
+colour_at bytes i =
+    from_be_bytes w32
+    (0 ∷ slice_index_or bytes (3 * i) 0 ∷ slice_index_or bytes (3 * i + 1) 0 ∷ slice_index_or bytes (3 * i + 2) 0 ∷ [])
+
+-- the colours of bytes, in order
+abbrev pub colours_in : List ℕ → List ℕ
+colours_in bytes = map (colour_at bytes) (range_with_len 0 (length bytes / 3))
+
+-- bytes as colours, with none left over
+unfoldable pub colours_from : List ℕ → Option (List ℕ)
+colours_from bytes = if length bytes % 3 == 0 then Some (colours_in bytes) else None
+
+-- hexadecimal digits, six for each colour
+unfoldable pub colours_of : Data → Option (List ℕ)
+colours_of d = do
+  text ← as_str d
+  bytes ← result_ok (decode_of text)
+  colours_from bytes
+
 -- {"fill":R,"colour":colour}
-unfoldable pub operation_of : Data → Option Op
-operation_of d = if has_keys 2 d then (do
+unfoldable pub fill_of : Data → Option Op
+fill_of d = do
   rect ← get (codes "fill") d >>= rect_of
   colour ← get (codes "colour") d >>= colour_of
-  Some (Fill rect colour)) else None
+  Some (Fill rect colour)
+
+-- {"blit":R,"colours":colours}
+unfoldable pub blit_of : Data → Option Op
+blit_of d = do
+  rect ← get (codes "blit") d >>= rect_of
+  colours ← get (codes "colours") d >>= colours_of
+  Some (Blit rect colours)
+
+-- {"scroll":R,"from":[x,y]}: the destination, and the source's point
+unfoldable pub scroll_of : Data → Option Op
+scroll_of d = do
+  dest ← get (codes "scroll") d >>= rect_of
+  source ← get (codes "from") d >>= point_of
+  Some (Scroll (record { source = source; dest = dest }))
+
+-- an operation has two keys, of which one tells its kind
+unfoldable pub operation_of : Data → Option Op
+operation_of d =
+    if has_keys 2 d then (
+    if is_some (get (codes "fill") d) then fill_of d
+    else if is_some (get (codes "blit") d) then blit_of d
+    else scroll_of d) else None
 
 -- 0 to 64 operations
 unfoldable pub operations_of : Data → Option (List Op)
@@ -210,17 +260,11 @@ abbrev pub opens_first : List Step → Bool
 opens_first [] = true
 opens_first (s ∷ ss) = is_duplicate s && list_all (λ t. not (is_duplicate t)) ss
 
--- a drawing lies inside the mode
-abbrev pub lies_inside : Mode → Step → Bool
-lies_inside m (Draw (Present ops)) = all_fit m.width m.height ops
-lies_inside m (Call client call) = true
-
--- one mode, one client that opens before all else, drawings that fit, and room for an entry of each step
+-- one mode, one client that opens before all else, and room for an entry of each step
 unfoldable pub has_one_duplicator : Script → Bool
 has_one_duplicator s =
     length s.spec.modes == 1 && length s.spec.privileged == 0 && length s.clients == 1
     && nat_lt (length s.steps) s.spec.capacity && opens_first s.steps
-    && list_all (lies_inside (first_mode s.spec.modes)) s.steps
 
 -- the script that a tree is
 unfoldable pub script_of : Data → Option Script

@@ -9,24 +9,21 @@ ghost use Rattle.dd_station.specs.Run.{acquire_answer, release_answer, released_
 ghost use Rattle.dd_station.specs.Station.{memory, MayStand};
 
 use crate::steps::ClientCall;
-use dd_dup::{Dup, Frame};
+use dd_dup::{Dup, News};
 use dd_geom::{Moves, Rects};
 use dd_grid::Surface;
 use dd_log::{Answer, DupRefusal, Log, Rows};
 use dd_ops::Colours;
 use std::alloc::{AllocError, Global};
 
-/// The answer that tells a frame, with lists of its own.
-fn frame_answer(alloc: Global, frame: &Frame) -> Result<Answer, AllocError>
-    ensures { IfOk result (λ a. a ≡ Answer.Frame frame.now.info frame.now.moves frame.now.dirt) }
+/// The moves and the dirty rectangles of what is new, on memory of their own.
+fn lists_of(alloc: Global, news: &News) -> Result<(Moves, Rects), AllocError>
+    ensures moves { IfOk result (λ l. l.0 ≡ news.now.moves) }
+    ensures dirt { IfOk result (λ l. l.1 ≡ news.now.dirt) }
 {
-    let moves = Vec::from_slice(alloc, frame.moves.as_slice())?;
-    let dirt = Vec::from_slice(alloc, frame.dirt.as_slice())?;
-    Ok(Answer::Frame {
-        info: frame.info,
-        moves: Moves::from_vec(moves),
-        dirt: Rects::from_vec(dirt),
-    })
+    let moves = Vec::from_slice(alloc, news.moves.as_slice())?;
+    let dirt = Vec::from_slice(alloc, news.dirt.as_slice())?;
+    Ok((Moves::from_vec(moves), Rects::from_vec(dirt)))
 }
 
 /// Acquires a frame. All memory is taken before the duplicator changes.
@@ -37,11 +34,11 @@ fn acquire(alloc: Global, dup: &mut Dup, log: &Log) -> Result<Answer, AllocError
     ensures err { OnErr result (dup.new ≡ dup.old) }
     ensures stands { Stands dup.new log.now }
 {
-    match dup.next_frame(log) {
-        Ok(next) => {
-            let answer = frame_answer(alloc, &next)?;
-            dup.hold(log, next);
-            Ok(answer)
+    match dup.next_news(log) {
+        Ok(news) => {
+            let (moves, dirt) = lists_of(alloc, &news)?;
+            let info = dup.hold(log, news);
+            Ok(Answer::Frame { info, moves, dirt })
         }
         Err(DupRefusal::OutOfMemory) => Err(AllocError),
         Err(refusal) => Ok(Answer::Refused {

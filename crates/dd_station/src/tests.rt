@@ -5,7 +5,7 @@ ghost use Rattle.std.specs.Prelude.{◌≡◌, ◌+◌, ◌<◌, length, IfOk, O
 ghost use Rattle.dd_station.specs.Run.{IsOfClient};
 
 use crate::{ClientCall, Station, Step};
-use dd_geom::Rect;
+use dd_geom::{Move, Point, Rect};
 use dd_log::{Answer, Apps, Draw, DupRefusal, LogRefusal, OpenRefusal, Spec};
 use dd_modes::{Mode, Modes, Rotation};
 use dd_ops::{Op, Ops};
@@ -80,16 +80,38 @@ fn station(alloc: Global) -> Result<Station, Fail>
     Ok(Station::start(alloc, spec, &[1, 1])?)
 }
 
-/// A present of one red fill of the first row, between two columns.
-fn fill(alloc: Global, left: i32, right: i32) -> Result<Draw, Fail> {
-    let rect = Rect {
+/// The first row between two columns.
+fn part(left: i32, right: i32) -> Rect {
+    Rect {
         left,
         top: 0,
         right,
         bottom: 1,
-    };
+    }
+}
+
+/// A present of one red fill of the first row, between two columns.
+fn fill(alloc: Global, left: i32, right: i32) -> Result<Draw, Fail> {
+    let rect = part(left, right);
     let mut ops = Ops::new(alloc);
     ops.push(Op::Fill { rect, colour: RED })?;
+    Ok(Draw::Present(ops))
+}
+
+/// A move of the beginning of the first row.
+fn to_part(left: i32, right: i32) -> Move {
+    Move {
+        source: Point { x: 0, y: 0 },
+        dest: part(left, right),
+    }
+}
+
+/// A present of these scrolls.
+fn scrolls(alloc: Global, moves: &[Move]) -> Result<Draw, Fail> {
+    let mut ops = Ops::new(alloc);
+    for mv in moves {
+        ops.push(Op::Scroll { mv: *mv })?;
+    }
     Ok(Draw::Present(ops))
 }
 
@@ -129,6 +151,22 @@ fn has_rows(rt: &impl Abort, answer: &Answer, want: [[u32; 4]; 3]) {
             }
         }
         _ => assert!(rt; false, "there are rows"),
+    }
+}
+
+/// An answer that is to tell a frame with these moves, dirty rectangles and bytes of metadata.
+fn has_lists(rt: &impl Abort, answer: &Answer, moves: &[Move], dirt: &[Rect], meta_size: u32) {
+    match answer {
+        Answer::Frame {
+            info,
+            moves: told,
+            dirt: listed,
+        } => {
+            assert_eq!(rt; told.as_slice(), moves);
+            assert_eq!(rt; listed.as_slice(), dirt);
+            assert_eq!(rt; info.meta_size, meta_size);
+        }
+        _ => assert!(rt; false, "it is a frame"),
     }
 }
 
@@ -220,6 +258,36 @@ fn a_frame_is_held_and_released(rt: HostRuntime) -> Result<(), Fail> {
     )?;
     let answer = s.step(&call(1, ACQUIRE))?;
     assert_eq!(rt; in_short(&answer), nothing_new);
+    Ok(())
+}
+
+#[test]
+fn a_frame_tells_a_scroll_as_a_move(rt: HostRuntime) -> Result<(), Fail> {
+    let mut s = begun(&rt, rt.alloc())?;
+    let mv = to_part(1, 3);
+    let draw = Step::Draw(scrolls(rt.alloc(), &[mv])?);
+    tells(&rt, &mut s, draw, Told::Entered(3), "a scroll")?;
+    let answer = s.step(&call(1, ACQUIRE))?;
+    let frame = Told::Frame {
+        last_present: 3,
+        accumulated: 2,
+        rects: 1,
+    };
+    assert_eq!(rt; in_short(&answer), frame);
+    has_lists(&rt, &answer, &[mv], &[part(0, 3)], 40);
+    Ok(())
+}
+
+#[test]
+fn a_scroll_past_the_side_is_not_drawn(rt: HostRuntime) -> Result<(), Fail> {
+    let mut s = begun(&rt, rt.alloc())?;
+    let moves = [to_part(1, 3), to_part(3, 5)];
+    let draw = Step::Draw(scrolls(rt.alloc(), &moves)?);
+    let bad = LogRefusal::BadRect { op: 1 };
+    tells(&rt, &mut s, draw, Told::NotDrawn(bad), "the second scroll")?;
+    assert_eq!(rt; s.log().len(), 2);
+    let answer = s.step(&call(1, ACQUIRE))?;
+    has_lists(&rt, &answer, &[], &[part(0, 2)], 16);
     Ok(())
 }
 

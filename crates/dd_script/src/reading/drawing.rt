@@ -1,19 +1,22 @@
-//! Rectangles, colours, operations and drawings.
+//! Points, rectangles, colours, operations and drawings.
 
-ghost use Rattle.std.specs.Prelude.{◌≡◌, ◌≤◌, length, map};
+ghost use Rattle.std.specs.Prelude.{◌≡◌, ◌≤◌, length, map, IfOk};
+ghost use Rattle.std.specs.Result.{result_ok};
+ghost use Rattle.hex.specs.Hex.{decode_of};
 ghost use Rattle.serde_json.specs.View.{view};
 ghost use Rattle.dd_ops.specs.declared.lists.TheConstants.{MAX_OPS};
 ghost use Rattle.dd_script.specs.Reading.{Gives};
-ghost use Rattle.dd_script.specs.Script.{each, rect_of, colour_of, operation_of, operations_of, draw_of};
+ghost use Rattle.dd_script.specs.Script.{each, point_of, rect_of, colour_of, colours_in, colours_from, colours_of};
+ghost use Rattle.dd_script.specs.Script.{fill_of, blit_of, scroll_of, operation_of, operations_of, draw_of};
 
 use crate::fault::ScriptFault;
 use crate::reading::tree::{has_items, has_keys, i32_of, list_of, member};
-use dd_geom::Rect;
+use dd_geom::{Move, Point, Rect};
 use dd_log::Draw;
-use dd_ops::{MAX_OPS, Op, Ops};
-use hex::FromHex;
+use dd_ops::{Colours, MAX_OPS, Op, Ops};
+use hex::{FromHex, FromHexError};
 use serde_json::Value;
-use std::alloc::Global;
+use std::alloc::{AllocError, Global};
 
 /// `[left, top, right, bottom]`.
 #[tactic(auto, unfolding(crate::specs::Script::rect_of))]
@@ -35,6 +38,19 @@ fn rect_of(value: &Value) -> Option<Rect>
     })
 }
 
+/// `[x, y]`.
+#[tactic(auto, unfolding(crate::specs::Script::point_of))]
+fn point_of(value: &Value) -> Option<Point>
+    ensures { result ≡ point_of (view value.now) }
+{
+    if !has_items(value, 2) {
+        return None;
+    }
+    let x = i32_of(value.get(0usize)?)?;
+    let y = i32_of(value.get(1usize)?)?;
+    Some(Point { x, y })
+}
+
 /// Six hexadecimal digits: red, green, blue.
 #[tactic(auto, unfolding(crate::specs::Script::colour_of))]
 fn colour_of(value: &Value) -> Option<u32>
@@ -44,17 +60,98 @@ fn colour_of(value: &Value) -> Option<u32>
     Some(u32::from_be_bytes([0, red, green, blue]))
 }
 
-/// `{"fill":R,"colour":colour}`.
-#[tactic(auto, unfolding(crate::specs::Script::operation_of))]
-fn operation_of(value: &Value) -> Option<Op>
-    ensures { result ≡ operation_of (view value.now) }
+/// The bytes of a text of hexadecimal digits.
+fn bytes_of(alloc: Global, text: &str) -> Result<Vec<u8>, ScriptFault>
+    ensures { Gives (λ v. v.items) result (result_ok (decode_of text.now)) }
 {
-    if !has_keys(value, 2) {
-        return None;
+    match hex::decode(alloc, text) {
+        Ok(bytes) => Ok(bytes),
+        Err(FromHexError::OutOfMemory) => Err(ScriptFault::OutOfMemory),
+        Err(_) => Err(ScriptFault::NotScript),
     }
+}
+
+/// The colours of bytes that are red, green and blue in turn. A rest of one or two is left out.
+fn each_colour(alloc: Global, bytes: &[u8]) -> Result<Vec<u32>, AllocError>
+    ensures { IfOk result (λ v. v.items ≡ colours_in bytes.now) }
+{
+    let count = bytes.len() / 3;
+    let mut colours = Vec::with_capacity(alloc, count)?;
+    for i in 0..count {
+        let (red, green, blue) = (bytes[3 * i], bytes[3 * i + 1], bytes[3 * i + 2]);
+        colours.push(u32::from_be_bytes([0, red, green, blue]))?;
+    }
+    Ok(colours)
+}
+
+/// Bytes as colours, with none left over.
+#[tactic(auto, unfolding(crate::specs::Script::colours_from))]
+fn colours_from(alloc: Global, bytes: &[u8]) -> Result<Colours, ScriptFault>
+    ensures { Gives (λ colours. colours) result (colours_from bytes.now) }
+{
+    if bytes.len() % 3 != 0 {
+        return Err(ScriptFault::NotScript);
+    }
+    Ok(Colours::from_vec(each_colour(alloc, bytes)?))
+}
+
+/// Hexadecimal digits, six for each colour.
+#[tactic(auto, unfolding(crate::specs::Script::colours_of))]
+fn colours_of(alloc: Global, value: &Value) -> Result<Colours, ScriptFault>
+    ensures { Gives (λ colours. colours) result (colours_of (view value.now)) }
+{
+    let text = value.as_str().ok_or(ScriptFault::NotScript)?;
+    let bytes = bytes_of(alloc, text)?;
+    colours_from(alloc, bytes.as_slice())
+}
+
+/// `{"fill":R,"colour":colour}`.
+#[tactic(auto, unfolding(crate::specs::Script::fill_of))]
+fn fill_of(value: &Value) -> Option<Op>
+    ensures { result ≡ fill_of (view value.now) }
+{
     let rect = rect_of(value.get("fill")?)?;
     let colour = colour_of(value.get("colour")?)?;
     Some(Op::Fill { rect, colour })
+}
+
+/// `{"blit":R,"colours":colours}`.
+#[tactic(auto, unfolding(crate::specs::Script::blit_of))]
+fn blit_of(alloc: Global, value: &Value) -> Result<Op, ScriptFault>
+    ensures { Gives (λ op. op) result (blit_of (view value.now)) }
+{
+    let rect = rect_of(member(value, "blit")?).ok_or(ScriptFault::NotScript)?;
+    let colours = colours_of(alloc, member(value, "colours")?)?;
+    Ok(Op::Blit { rect, colours })
+}
+
+/// `{"scroll":R,"from":[x,y]}`: the destination, and the source's point.
+#[tactic(auto, unfolding(crate::specs::Script::scroll_of))]
+fn scroll_of(value: &Value) -> Option<Op>
+    ensures { result ≡ scroll_of (view value.now) }
+{
+    let dest = rect_of(value.get("scroll")?)?;
+    let source = point_of(value.get("from")?)?;
+    Some(Op::Scroll {
+        mv: Move { source, dest },
+    })
+}
+
+/// An operation has two keys, of which one tells its kind.
+#[tactic(auto, unfolding(crate::specs::Script::operation_of))]
+fn operation_of(alloc: Global, value: &Value) -> Result<Op, ScriptFault>
+    ensures { Gives (λ op. op) result (operation_of (view value.now)) }
+{
+    if !has_keys(value, 2) {
+        return Err(ScriptFault::NotScript);
+    }
+    if value.get("fill").is_some() {
+        fill_of(value).ok_or(ScriptFault::NotScript)
+    } else if value.get("blit").is_some() {
+        blit_of(alloc, value)
+    } else {
+        scroll_of(value).ok_or(ScriptFault::NotScript)
+    }
 }
 
 /// The operations of the values, in their order.
@@ -65,7 +162,7 @@ fn each_operation(alloc: Global, values: &[Value]) -> Result<Ops, ScriptFault>
 {
     let mut ops = Ops::new(alloc);
     for value in values {
-        let op = operation_of(value).ok_or(ScriptFault::NotScript)?;
+        let op = operation_of(alloc, value)?;
         ops.push(op)?;
     }
     Ok(ops)

@@ -2,13 +2,9 @@
 
 ghost use Rattle.std.specs.Prelude.{◌≡◌, not};
 ghost use Rattle.std.specs.List.{list_all};
-ghost use Rattle.dd_ops.specs.Operations.{all_fit};
 ghost use Rattle.dd_script.specs.Script.{has_client, keeps_limits};
-ghost use Rattle.dd_script.specs.Script.{is_duplicate, opens_first, lies_inside, has_one_duplicator};
+ghost use Rattle.dd_script.specs.Script.{is_duplicate, opens_first, has_one_duplicator};
 
-use dd_log::Draw;
-use dd_modes::Mode;
-use dd_ops::{Op, fits};
 use dd_station::{ClientCall, Script, Step};
 
 /// The greatest capacity of an output's list, the entry of its end included.
@@ -81,42 +77,16 @@ fn opens_first(steps: &[Step]) -> bool
     }
 }
 
-/// Whether each operation fits the mode.
-fn all_fit(ops: &[Op], mode: Mode) -> bool
-    ensures { result ≡ all_fit mode.width mode.height ops.now }
-{
-    ops.iter().all(|op| fits(op, mode.width, mode.height))
-}
-
-/// Whether a drawing lies inside the mode.
-fn lies_inside(step: &Step, mode: Mode) -> bool
-    ensures { result ≡ lies_inside mode step.now }
-{
-    match step {
-        Step::Draw(Draw::Present(ops)) => all_fit(ops.as_slice(), mode),
-        Step::Call { .. } => true,
-    }
-}
-
-/// Whether each drawing lies inside the mode.
-fn all_lie_inside(steps: &[Step], mode: Mode) -> bool
-    ensures { result ≡ list_all (lies_inside mode) steps.now }
-{
-    steps.iter().all(|step| lies_inside(step, mode))
-}
-
-/// Whether the script has one mode and one client that opens before all else, drawings that fit,
-/// and room for an entry of each step.
+/// Whether the script has one mode, no privileged application, one client that opens before all
+/// else and opens once, and room for an entry of each step.
 #[tactic(auto, unfolding(crate::specs::Script::has_one_duplicator))]
 pub fn has_one_duplicator(script: &Script) -> bool
     ensures { result ≡ has_one_duplicator script.now }
 {
     let steps = script.steps.as_slice();
-    let mode = script.spec.modes.first();
     script.spec.modes.as_slice().len() == 1
         && script.spec.privileged.as_slice().is_empty()
         && script.clients.as_slice().len() == 1
         && steps.len() < script.spec.capacity as usize
         && opens_first(steps)
-        && all_lie_inside(steps, mode)
 }

@@ -79,6 +79,35 @@ fn a_script_is_read_whole(rt: HostRuntime) -> Result<(), Fail> {
 }
 
 #[test]
+fn blits_and_scrolls_are_read_whole(rt: HostRuntime) -> Result<(), Fail> {
+    let text = presenting(
+        rt.alloc(),
+        "{\"colours\":\"fF8001000102\",\"blit\":[1,0,3,2]},\
+         {\"from\":[-3,7],\"scroll\":[2,-1,4,1]}",
+    )?;
+    let script = read_steps(rt.alloc(), text.as_bytes())?;
+    match script.steps.as_slice() {
+        [_, Step::Draw(Draw::Present(ops))] => match ops.as_slice() {
+            [Op::Blit { rect, colours }, Op::Scroll { mv }] => {
+                assert_eq!(rt;
+                    (rect.left, rect.top, rect.right, rect.bottom),
+                    (1, 0, 3, 2)
+                );
+                assert_eq!(rt; colours.as_slice(), [0xff_80_01, 0x00_01_02].as_slice());
+                assert_eq!(rt; (mv.source.x, mv.source.y), (-3, 7));
+                assert_eq!(rt;
+                    (mv.dest.left, mv.dest.top, mv.dest.right, mv.dest.bottom),
+                    (2, -1, 4, 1)
+                );
+            }
+            _ => assert!(rt; false, "a blit and a scroll"),
+        },
+        _ => assert!(rt; false, "an opening and a present"),
+    }
+    Ok(())
+}
+
+#[test]
 fn operations_of_a_present(rt: HostRuntime) -> Result<(), Fail> {
     let alloc = rt.alloc();
     let (most, more) = (fills(alloc, 64)?, fills(alloc, 65)?);
@@ -94,7 +123,7 @@ fn operations_of_a_present(rt: HostRuntime) -> Result<(), Fail> {
         (
             "a fill past the bottom",
             "{\"fill\":[0,0,3,4],\"colour\":\"abcdef\"}",
-            Outcome::NotScript,
+            Outcome::Script,
         ),
         (
             "a digit that is none",
@@ -109,6 +138,81 @@ fn operations_of_a_present(rt: HostRuntime) -> Result<(), Fail> {
         (
             "another operation",
             "{\"drop\":[0,0,1,1]}",
+            Outcome::NotScript,
+        ),
+        (
+            "a blit of fewer colours than points",
+            "{\"blit\":[0,0,4,3],\"colours\":\"ABCdef000001\"}",
+            Outcome::Script,
+        ),
+        (
+            "a blit of no colour",
+            "{\"blit\":[0,0,1,1],\"colours\":\"\"}",
+            Outcome::Script,
+        ),
+        (
+            "a blit of eleven digits",
+            "{\"blit\":[0,0,2,1],\"colours\":\"abcdef00000\"}",
+            Outcome::NotScript,
+        ),
+        (
+            "a blit of ten digits",
+            "{\"blit\":[0,0,2,1],\"colours\":\"abcdef0000\"}",
+            Outcome::NotScript,
+        ),
+        (
+            "a blit of eight digits",
+            "{\"blit\":[0,0,2,1],\"colours\":\"abcdef00\"}",
+            Outcome::NotScript,
+        ),
+        (
+            "a blit with a digit that is none",
+            "{\"blit\":[0,0,2,1],\"colours\":\"abcdef00000x\"}",
+            Outcome::NotScript,
+        ),
+        (
+            "a blit with the key of a fill",
+            "{\"blit\":[0,0,1,1],\"colour\":\"abcdef\"}",
+            Outcome::NotScript,
+        ),
+        (
+            "a fill and a blit",
+            "{\"fill\":[0,0,1,1],\"blit\":[0,0,1,1]}",
+            Outcome::NotScript,
+        ),
+        (
+            "a cover",
+            "{\"cover\":[0,0,1,1],\"colours\":\"abcdef\"}",
+            Outcome::NotScript,
+        ),
+        (
+            "a scroll from outside to nowhere",
+            "{\"scroll\":[1,1,0,0],\"from\":[-2147483648,2147483647]}",
+            Outcome::Script,
+        ),
+        (
+            "a scroll from one number",
+            "{\"scroll\":[0,0,1,1],\"from\":[1]}",
+            Outcome::NotScript,
+        ),
+        (
+            "a scroll from three numbers",
+            "{\"scroll\":[0,0,1,1],\"from\":[1,2,3]}",
+            Outcome::NotScript,
+        ),
+        (
+            "a scroll from past the greatest coordinate",
+            "{\"scroll\":[0,0,1,1],\"from\":[2147483648,0]}",
+            Outcome::NotScript,
+        ),
+        (
+            "a scroll from nowhere",
+            "{\"scroll\":[0,0,1,1]}",
+            Outcome::NotScript,
+        ),
+        (
+            "a scroll with a further key",
+            "{\"scroll\":[0,0,1,1],\"from\":[0,0],\"at\":0}",
             Outcome::NotScript,
         ),
     ];

@@ -3,11 +3,16 @@ use Rattle.dd_ops.proofs.Fitting.{fits_at, drawn_more}
 use Rattle.dd_ops.proofs.operations.draw_all.Goals as goal
 
 pub draw-requires : goal.draw-requires
-draw-requires c = rw (c.loop-op.invariant.1, c.loop-op.invariant.2) (fits_at c.args.p.now.width c.args.p.now.height c.args.ops.now c.loop-op.op-index _ c.requires c.loop-op-test.true)
+draw-requires c =
+    rw (c.loop-op.invariant.1, c.loop-op.invariant.2)
+    (fits_at c.args.p.now.width c.args.p.now.height c.args.ops.now c.loop-op.op-index c.op-item.result c.requires
+    c.loop-op-test.true c.op-item.is)
 
 pub loop-op-preserved : goal.loop-op-preserved
 loop-op-preserved c = (
-  c.draw.ensures.drawn ∙ drawn_more c.args.p.now c.loop-op.p c.args.ops.now c.loop-op.op-index _ c.loop-op-test.true c.loop-op.invariant.0,
+  c.draw.ensures.drawn
+      ∙ drawn_more c.args.p.now c.loop-op.p c.args.ops.now c.loop-op.op-index c.op-item.result c.loop-op-test.true
+      c.op-item.is c.loop-op.invariant.0,
   c.draw.ensures.width ∙ c.loop-op.invariant.1,
   c.draw.ensures.height ∙ c.loop-op.invariant.2,
 )

@@ -1,34 +1,45 @@
-use Rattle.std.proofs.Common.{◌≡◌, ◌∙◌, ℕ, sym, ap, subst, true, List, [], drop, Some}
-use Rattle.std.specs.List.{fold}
-use Rattle.dd_geom.specs.declared.rect.Rect.{Rect}
-use Rattle.dd_geom.specs.declared.rect.Move.{Move}
+use Rattle.std.proofs.Common.{◌≡◌, ◌≤◌, ◌∙◌, ℕ, sym, ap, subst, true, length, drop, Option, Some, refl}
 use Rattle.dd_geom.specs.Grid.{Grid}
 use Rattle.dd_grid.specs.Cell.{Cell}
 use Rattle.dd_grid.specs.Drawing.{seen}
-use Rattle.dd_acc.specs.Rebuild.{moved, copied}
 use Rattle.dd_log.specs.History.{entries_fit, mode_of}
 use Rattle.dd_log.specs.Desk.{picture, view, shown}
 use Rattle.dd_dup.specs.declared.frame.Frame.{Frame}
-use Rattle.dd_dup.specs.Reply.{dirt_of, news}
-use Rattle.dd_dup.specs.Duplicator.{Duplicator, duplicator}
+use Rattle.dd_dup.specs.declared.frame.News.{News}
+use Rattle.dd_dup.specs.Reply.{moves_of, dirt_of, news, frame}
+use Rattle.dd_geom.specs.Rect.{IsSize}
+use Rattle.dd_geom.specs.declared.rect.TheConstants.{MAX_PIXELS}
+use Rattle.dd_acc.specs.declared.interval.TheConstants.{MAX_MOVES}
+use Rattle.dd_dup.specs.Duplicator.{Duplicator, duplicator, IsReached}
 use Rattle.dd_dup.specs.Stands.{Stands}
-use Rattle.dd_dup.proofs.Frames.{width-picture, height-picture, picture_forward, frame-dirt, frame-moves, same_parts, stands_held}
+use Rattle.dd_dup.proofs.Frames.{width-picture, height-picture, picture_forward, news-dirt, news-moves, few_moves_of, few_dirt_of, frame_made, reached, same_parts, stands_held}
 use Rattle.dd_dup.proofs.duplicator.Dup.hold.Goals as goal
 
 pub advance-requires-clause-fit : goal.advance-requires-clause-fit
 advance-requires-clause-fit c =
     let d : Duplicator = duplicator c.self.inside.opened c.self.inside.mark c.self.inside.held c.self.inside.surface c.self.inside.picture c.self.inside.mode in
-    let stands : Stands d c.args.log.now = subst (λ (e : Duplicator). Stands e c.args.log.now) (sym c.self.view_is) c.requires.stands in
-    let wide : c.self.inside.picture.width ≡ (mode_of c.args.log.now).width = ap (λ (p : Grid Cell). p.width) stands.picture ∙ width-picture _ in
-    let high : c.self.inside.picture.height ≡ (mode_of c.args.log.now).height = ap (λ (p : Grid Cell). p.height) stands.picture ∙ height-picture _ in
-    subst (λ (n : ℕ). entries_fit n c.self.inside.picture.height c.after-news.result.now ≡ true) (sym wide)
-    (subst (λ (n : ℕ). entries_fit (mode_of c.args.log.now).width n c.after-news.result.now ≡ true) (sym high) c.after-news.ensures.fit)
+    let h = c.args.log.now in
+    let stands : Stands d h = subst (λ (e : Duplicator). Stands e h) (sym c.self.view_is) c.requires.stands in
+    let wide : c.self.inside.picture.width ≡ (mode_of h).width = ap (λ (p : Grid Cell). p.width) stands.picture ∙ width-picture _ in
+    let high : c.self.inside.picture.height ≡ (mode_of h).height = ap (λ (p : Grid Cell). p.height) stands.picture ∙ height-picture _ in
+    subst (λ (n : ℕ). entries_fit n c.self.inside.picture.height c.after-entries.result.now ≡ true) (sym wide)
+    (subst (λ (n : ℕ). entries_fit (mode_of h).width n c.after-entries.result.now ≡ true) (sym high) c.after-entries.ensures.fit)
 
 pub advance-requires-clause-seen : goal.advance-requires-clause-seen
 advance-requires-clause-seen c =
     let d : Duplicator = duplicator c.self.inside.opened c.self.inside.mark c.self.inside.held c.self.inside.surface c.self.inside.picture c.self.inside.mode in
     let stands : Stands d c.args.log.now = subst (λ (e : Duplicator). Stands e c.args.log.now) (sym c.self.view_is) c.requires.stands in
     stands.surface ∙ ap seen (sym stands.picture)
+
+pub advance-requires-clause-moves : goal.advance-requires-clause-moves
+advance-requires-clause-moves c =
+    let h = c.args.log.now in
+    let mark_is : c.args.self.now.memory.mark ≡ c.self.inside.mark = ap (λ (e : Duplicator). e.memory.mark) (sym c.self.view_is) in
+    c.as_slice.ensures
+    ∙ (ap (λ (n : News). n.moves) c.requires.next
+    ∙ (news-moves (mode_of h).width (mode_of h).height c.args.self.now.memory.mark (news h c.args.self.now.memory.mark)
+    ∙ (ap (λ n. moves_of (drop n h.entries)) mark_is
+    ∙ ap moves_of (sym c.after-entries.ensures.value))))
 
 pub advance-requires-clause-dirt : goal.advance-requires-clause-dirt
 advance-requires-clause-dirt c =
@@ -38,13 +49,13 @@ advance-requires-clause-dirt c =
     let wide : c.self.inside.picture.width ≡ (mode_of h).width = ap (λ (p : Grid Cell). p.width) stands.picture ∙ width-picture _ in
     let high : c.self.inside.picture.height ≡ (mode_of h).height = ap (λ (p : Grid Cell). p.height) stands.picture ∙ height-picture _ in
     let mark_is : c.args.self.now.memory.mark ≡ c.self.inside.mark = ap (λ (e : Duplicator). e.memory.mark) (sym c.self.view_is) in
-    c.as_slice.ensures
-    ∙ ap (λ (f : Frame). f.dirt) c.requires.next
-    ∙ frame-dirt (mode_of h).width (mode_of h).height c.args.self.now.memory.mark (news h c.args.self.now.memory.mark)
-    ∙ ap (λ n. dirt_of (mode_of h).width (mode_of h).height (drop n h.entries)) mark_is
-    ∙ ap (dirt_of (mode_of h).width (mode_of h).height) (sym c.after-news.ensures.value)
-    ∙ ap (λ n. dirt_of n (mode_of h).height c.after-news.result.now) (sym wide)
-    ∙ ap (λ n. dirt_of c.self.inside.picture.width n c.after-news.result.now) (sym high)
+    c.as_slice-2.ensures
+    ∙ (ap (λ (n : News). n.dirt) c.requires.next
+    ∙ (news-dirt (mode_of h).width (mode_of h).height c.args.self.now.memory.mark (news h c.args.self.now.memory.mark)
+    ∙ (ap (λ n. dirt_of (mode_of h).width (mode_of h).height (drop n h.entries)) mark_is
+    ∙ (ap (dirt_of (mode_of h).width (mode_of h).height) (sym c.after-entries.ensures.value)
+    ∙ (ap (λ n. dirt_of n (mode_of h).height c.after-entries.result.now) (sym wide)
+    ∙ ap (λ n. dirt_of c.self.inside.picture.width n c.after-entries.result.now) (sym high))))))
 
 -- the value after it
 becomes : goal.returns-clause-held
@@ -52,33 +63,73 @@ becomes c =
     let d : Duplicator = duplicator c.self.inside.opened c.self.inside.mark c.self.inside.held c.self.inside.surface c.self.inside.picture c.self.inside.mode in
     let h = c.args.log.now in
     let stands : Stands d h = subst (λ (e : Duplicator). Stands e h) (sym c.self.view_is) c.requires.stands in
-    let forward : shown c.self.inside.picture c.after-news.result.now ≡ picture h =
-    ap (shown c.self.inside.picture) c.after-news.ensures.value
-    ∙ ap (λ (p : Grid Cell). shown p (drop c.self.inside.mark h.entries)) stands.picture
-    ∙ picture_forward h c.self.inside.mark in
-    same_parts c.self.inside.opened c.args.self.now.memory.opened c.len-self-inside.result _ (Some c.args.next) c.advance.new.surface (view h) c.advance.new.picture (picture h) c.self.inside.mode c.args.self.now.mode
+    let forward : shown c.self.inside.picture c.after-entries.result.now ≡ picture h =
+    ap (shown c.self.inside.picture) c.after-entries.ensures.value
+    ∙ (ap (λ (p : Grid Cell). shown p (drop c.self.inside.mark h.entries)) stands.picture
+    ∙ picture_forward h c.self.inside.mark) in
+    let picture_is : c.advance.new.picture ≡ picture h = c.advance.ensures.picture ∙ forward in
+    let holds : c.frame_of-frame.result ≡ frame h c.args.self.now.memory.mark =
+    c.frame_of-frame.ensures
+    ∙ frame_made h c.args.self.now.memory.mark c.args.next c.advance.new.picture c.any_hidden.result c.requires.next picture_is c.any_hidden.ensures.value in
+    same_parts c.self.inside.opened c.args.self.now.memory.opened c.len-self-inside.result _ (Some c.frame_of-frame.result)
+    (Some (frame h c.args.self.now.memory.mark)) c.advance.new.surface (view h) c.advance.new.picture (picture h)
+    c.self.inside.mode c.args.self.now.mode
     (ap (λ (e : Duplicator). e.memory.opened) c.self.view_is)
     c.len-self-inside.ensures.len
+    (ap (λ (f : Frame). Some f) holds)
     (c.advance.ensures.surface ∙ ap seen forward)
-    (c.advance.ensures.picture ∙ forward)
+    picture_is
     (ap (λ (e : Duplicator). e.mode) c.self.view_is)
 
 pub returns-clause-held : goal.returns-clause-held
 returns-clause-held c = becomes c
 
-pub returns-clause-stands_still : goal.returns-clause-stands_still
-returns-clause-stands_still c =
-    subst (λ (e : Duplicator). Stands e c.args.log.now) (sym (becomes c)) (stands_held c.args.self.now c.args.log.now c.args.next c.requires.stands)
-
 pub returns-clause-surface : goal.returns-clause-surface
 returns-clause-surface c = ap (λ (e : Duplicator). e.surface) (becomes c)
 
-pub returns-clause-rebuilt : goal.returns-clause-rebuilt
-returns-clause-rebuilt c =
+pub returns-clause-stands_still : goal.returns-clause-stands_still
+returns-clause-stands_still c =
+    subst (λ (e : Duplicator). Stands e c.args.log.now) (sym (becomes c))
+    (stands_held c.args.self.now c.args.log.now (frame c.args.log.now c.args.self.now.memory.mark) c.requires.stands)
+
+-- what the frame tells, and where its dirt lies
+of_held : (o : Option Frame) (f g : Frame) → o ≡ Some f → o ≡ Some g → f ≡ g
+of_held o f g a b = let e : Some f ≡ Some g = sym a ∙ b in cc
+
+pub returns-clause-info : goal.returns-clause-info
+returns-clause-info c =
+    ap (λ (f : Frame). f.info)
+    (of_held (Some c.frame_of-frame.result) c.frame_of-frame.result (frame c.args.log.now c.args.self.now.memory.mark) refl
+    (ap (λ (e : Duplicator). e.memory.held) (becomes c)))
+
+pub returns-clause-reached : goal.returns-clause-reached
+returns-clause-reached c =
     let h = c.args.log.now in
-    let t = c.advance.new.surface in
-    let none : c.args.next.moves ≡ [] = ap (λ (f : Frame). f.moves) c.requires.next ∙ frame-moves (mode_of h).width (mode_of h).height c.args.self.now.memory.mark (news h c.args.self.now.memory.mark) in
-    ap (λ (ms : List Move). copied (fold moved c.args.self.now.surface ms) c.args.next.dirt t) none
-    ∙ ap (λ (s : Grid ℕ). copied s c.args.next.dirt t) (ap (λ (e : Duplicator). e.surface) (sym c.self.view_is))
-    ∙ ap (λ (rs : List Rect). copied c.self.inside.surface rs t) (sym c.as_slice.ensures)
-    ∙ c.advance.ensures.rebuilt
+    let m = c.args.self.now.memory.mark in
+    let holds : c.frame_of-frame.result ≡ frame h m =
+    of_held (Some c.frame_of-frame.result) c.frame_of-frame.result (frame h m) refl (ap (λ (e : Duplicator). e.memory.held) (becomes c)) in
+    subst (λ (f : Frame). IsReached (Some f) (news h m)) (sym holds) (reached h m c.after-entries.ensures.legal)
+
+pub frame_of-frame-requires-clause-moves : goal.frame_of-frame-requires-clause-moves
+frame_of-frame-requires-clause-moves c =
+    let h = c.args.log.now in
+    let m = c.args.self.now.memory.mark in
+    subst (λ (n : News). length n.moves ≤ MAX_MOVES) (sym c.requires.next) (few_moves_of (mode_of h).width (mode_of h).height m (news h m))
+
+pub frame_of-frame-requires-clause-dirt : goal.frame_of-frame-requires-clause-dirt
+frame_of-frame-requires-clause-dirt c =
+    let d : Duplicator = duplicator c.self.inside.opened c.self.inside.mark c.self.inside.held c.self.inside.surface c.self.inside.picture c.self.inside.mode in
+    let h = c.args.log.now in
+    let m = c.args.self.now.memory.mark in
+    let stands : Stands d h = subst (λ (e : Duplicator). Stands e h) (sym c.self.view_is) c.requires.stands in
+    let picture_is : c.advance.new.picture ≡ picture h =
+    c.advance.ensures.picture
+    ∙ (ap (shown c.self.inside.picture) c.after-entries.ensures.value
+    ∙ (ap (λ (p : Grid Cell). shown p (drop c.self.inside.mark h.entries)) stands.picture
+    ∙ picture_forward h c.self.inside.mark)) in
+    let size = c.any_hidden.ensures.picture.size in
+    let wide : c.advance.new.picture.width ≡ (mode_of h).width = ap (λ (p : Grid Cell). p.width) picture_is ∙ width-picture h in
+    let high : c.advance.new.picture.height ≡ (mode_of h).height = ap (λ (p : Grid Cell). p.height) picture_is ∙ height-picture h in
+    let fits : IsSize (mode_of h).width (mode_of h).height =
+    subst (λ (n : ℕ). IsSize n (mode_of h).height) wide (subst (λ (n : ℕ). IsSize c.advance.new.picture.width n) high size) in
+    subst (λ (n : News). length n.dirt ≤ MAX_PIXELS) (sym c.requires.next) (few_dirt_of (mode_of h).width (mode_of h).height m (news h m) fits)

@@ -1,0 +1,6 @@
+use Rattle.std.proofs.Common.{IsTrue}
+use Rattle.dd_ops.specs.Operations.{all_fit}
+use Rattle.dd_acc.proofs.tests.present.Given as goal
+
+abbrev pub invariant-loop-step : goal.invariant-loop-step
+invariant-loop-step g l = IsTrue (all_fit 4 3 l.ops)

@@ -1,0 +1,109 @@
+//! A rectangle of a grid's cells copied to another place of it.
+
+ghost use Rattle.std.specs.Prelude.{◌≡◌, ℕ, ◌+◌, ◌-◌, ◌*◌, ◌≤◌, ◌<◌, length, IsTrue};
+ghost use Rattle.dd_geom.specs.Rect.{AreInside, is_move_inside};
+ghost use Rattle.dd_geom.specs.Grid.{scrolled};
+ghost use Rattle.dd_geom.specs.Scrolling.{IsCopied};
+
+use crate::rect::{Move, Sides, index_of, sides_of};
+
+/// Copies the rows one after another from the first on: where the source lies as low as `to`, or
+/// lower, no row is written before it was read.
+fn copy_from_the_top<T: Copy>(
+    cells: &mut [T],
+    width: usize,
+    height: usize,
+    to: Sides,
+    column: usize,
+    row: usize,
+)
+    requires inside { AreInside to width height }
+    requires across { column + (to.right - to.left) ≤ width }
+    requires down { row + (to.bottom - to.top) ≤ height }
+    requires cells { length cells.old ≡ width * height }
+    requires order { to.top ≤ row }
+    ensures { IsCopied width to column row cells.old cells.new }
+{
+    let size = to.right - to.left;
+    for y in to.top..to.bottom {
+        let from = (y - to.top + row) * width + column;
+        cells.copy_within(from..from + size, y * width + to.left);
+    }
+}
+
+/// Copies the rows one after another from the last on: where the source lies higher than `to`, no
+/// row is written before it was read.
+fn copy_from_the_bottom<T: Copy>(
+    cells: &mut [T],
+    width: usize,
+    height: usize,
+    to: Sides,
+    column: usize,
+    row: usize,
+)
+    requires inside { AreInside to width height }
+    requires across { column + (to.right - to.left) ≤ width }
+    requires down { row + (to.bottom - to.top) ≤ height }
+    requires cells { length cells.old ≡ width * height }
+    requires order { row ≤ to.top }
+    ensures { IsCopied width to column row cells.old cells.new }
+{
+    let size = to.right - to.left;
+    for y in (to.top..to.bottom).rev() {
+        let from = (y - to.top + row) * width + column;
+        cells.copy_within(from..from + size, y * width + to.left);
+    }
+}
+
+/// Copies whole rows, all at once.
+fn copy_rows<T: Copy>(cells: &mut [T], width: usize, height: usize, to: Sides, row: usize)
+    requires inside { AreInside to width height }
+    requires left { to.left ≡ 0 }
+    requires right { to.right ≡ width }
+    requires down { row + (to.bottom - to.top) ≤ height }
+    requires cells { length cells.old ≡ width * height }
+    ensures { IsCopied width to 0 row cells.old cells.new }
+{
+    let from = row * width;
+    let size = (to.bottom - to.top) * width;
+    cells.copy_within(from..from + size, to.top * width);
+}
+
+/// Copies whole rows at once, and parts of rows in the order in which no row is written before it
+/// was read.
+fn copy_between<T: Copy>(
+    cells: &mut [T],
+    width: usize,
+    height: usize,
+    to: Sides,
+    column: usize,
+    row: usize,
+)
+    requires inside { AreInside to width height }
+    requires across { column + (to.right - to.left) ≤ width }
+    requires down { row + (to.bottom - to.top) ≤ height }
+    requires cells { length cells.old ≡ width * height }
+    ensures { IsCopied width to column row cells.old cells.new }
+{
+    if to.left == 0 && to.right == width {
+        copy_rows(cells, width, height, to, row);
+    } else if to.top <= row {
+        copy_from_the_top(cells, width, height, to, column, row);
+    } else {
+        copy_from_the_bottom(cells, width, height, to, column, row);
+    }
+}
+
+/// Copies each cell of a move's source to its place in the destination, as if through a copy of
+/// them; `cells` has rows of `width` cells. Source and destination may overlap.
+pub fn scroll<T: Copy>(cells: &mut [T], width: usize, height: usize, m: Move)
+    requires inside { IsTrue (is_move_inside m width height) }
+    requires cells { length cells.old ≡ width * height }
+    ensures { (d : T) → record { width = width; height = height; cells = cells.new }
+        ≡ scrolled d (record { width = width; height = height; cells = cells.old }) m }
+{
+    let to = sides_of(m.dest);
+    let column = index_of(m.source.x);
+    let row = index_of(m.source.y);
+    copy_between(cells, width, height, to, column, row);
+}
