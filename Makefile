@@ -4,6 +4,7 @@
 RT = rt
 FIRST = examples/first
 MOVES = examples/moves
+TOUR = examples/tour
 
 # Runs the first example. Standard output has the answer lines alone.
 demo:
@@ -25,6 +26,8 @@ build:
 	cp crates/ddup/out/ddup bin/ddup
 	bin/ddup replay < $(MOVES)/script.json > bin/answers.txt
 	cmp bin/answers.txt $(MOVES)/answers.txt
+	bin/ddup replay < $(TOUR)/script.json > bin/answers.txt
+	cmp bin/answers.txt $(TOUR)/answers.txt
 	rm bin/answers.txt
 
 # Proves every crate from nothing, tries the wrong bodies, and runs the tests and the program.

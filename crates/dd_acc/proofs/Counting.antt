@@ -1,7 +1,7 @@
 -- The scrolls of an interval, counted, and its effects.
-use Rattle.std.proofs.Common.{◌≡◌, ℕ, ◌+◌, ◌-◌, ◌<◌, ◌≤◌, Bool, true, false, cond, nat_lt, List, [], ◌∷◌, ◌++◌, length, take, get_or, refl, sym, ap, ◌∙◌, arith, inl, inr, ◌⊎◌, ⊎_elim, subst, append_assoc}
+use Rattle.std.proofs.Common.{◌≡◌, ℕ, ◌+◌, ◌<◌, ◌≤◌, Bool, true, false, ◌||◌, cond, nat_lt, List, [], ◌∷◌, ◌++◌, length, take, get_or, refl, sym, ap, ◌∙◌, arith, inl, inr, ◌⊎◌, ⊎_elim, subst, append_assoc}
 use Rattle.std.specs.List.{list_all, flat_map, fold}
-use Rattle.std.proofs.lemmas.Bool.{and_parts, and_from, cond-false, cases_lt, lt-ltb, le-ltb, ltb-true}
+use Rattle.std.proofs.lemmas.Bool.{and_parts, and_from, cond-false, cases_lt, lt-ltb, le-ltb}
 use Rattle.std.proofs.lemmas.List.{take_more, append-nil, length-append}
 use Rattle.dd_geom.specs.declared.rect.Move.{Move}
 use Rattle.dd_geom.specs.Rect.{is_move_inside}
@@ -11,7 +11,7 @@ use Rattle.dd_ops.specs.declared.operations.Op.TheVariants.{Fill, Blit, Cover, S
 use Rattle.dd_ops.specs.Operations.{fits, all_fit}
 use Rattle.dd_bits.specs.Area.{nowhere}
 use Rattle.dd_acc.specs.declared.interval.TheConstants.{MAX_MOVES}
-use Rattle.dd_acc.specs.Effects.{Effect, over, shifted, scroll_effect, effect, effects, scroll_in, scrolls, each_effects, move_in, moves_in, moves, dirtied, dirt, with_effect, presents_fit}
+use Rattle.dd_acc.specs.Effects.{Effect, over, shifted, scroll_effect, effect, effects, scroll_in, scrolls, each_effects, move_in, moves_in, moves, dirtied, settled, must_round, rounds, dirt, is_coalesced, with_effect, presents_fit}
 use Rattle.std.proofs.lemmas.List.Sums.{AllPass-from_list_all}
 use Rattle.dd_acc.specs.Interval.{Interval, nothing, with_effects, with_present, Composes}
 use Rattle.dd_acc.proofs.Origins.{effect_fits, dirtied-push}
@@ -159,60 +159,52 @@ Alike-trans a b c (inl e) (inr f) = inr (omega (arith, e, f.0), f.1)
 Alike-trans a b c (inr e) (inl f) = inr (e.0, omega (arith, e.1, f))
 Alike-trans a b c (inr e) (inr f) = inr (e.0, f.1)
 
-made : (area : Grid Bool) (ms ns : List Move) (k n : ℕ) → ms ≡ ns → k ≡ n → (let i : Interval = record { area = area; moves = ms; frames = k } in i) ≡ record { area = area; moves = ns; frames = n }
-made area ms ns k n e f = ap (λ xs. record { area = area; moves = xs; frames = k }) e ∙ ap (λ m. record { area = area; moves = ns; frames = m }) f
+made :
+    (area : Grid Bool) (ms ns : List Move) (b c : Bool) (k n : ℕ) → ms ≡ ns → b ≡ c → k ≡ n
+    → (let i : Interval = record { area = area; moves = ms; coalesced = b; frames = k } in i)
+    ≡ record { area = area; moves = ns; coalesced = c; frames = n }
+made area ms ns b c k n e f h =
+    ap (λ xs. record { area = area; moves = xs; coalesced = b; frames = k }) e
+    ∙ (ap (λ d. record { area = area; moves = ns; coalesced = d; frames = k }) f
+    ∙ ap (λ m. record { area = area; moves = ns; coalesced = c; frames = m }) h)
 
-added : (ps : List (List Op)) (i : Interval) (n : ℕ) → Alike (length i.moves) n
-    → fold with_present i ps ≡ record { area = fold dirtied i.area (each_effects n ps); moves = i.moves ++ moves_in (flat_map (λ es. es) (each_effects n ps)); frames = i.frames + length ps }
-added [] i n e = made i.area i.moves (i.moves ++ []) i.frames (i.frames + 0) (sym (append-nil i.moves)) (omega arith)
+or_none : (b : Bool) → b ≡ (b || false)
+or_none true = refl
+or_none false = refl
+
+or_assoc : (a b c : Bool) → ((a || b) || c) ≡ (a || (b || c))
+or_assoc true b c = refl
+or_assoc false b c = refl
+
+added :
+    (ps : List (List Op)) (i : Interval) (n : ℕ) → Alike (length i.moves) n
+    → fold with_present i ps
+    ≡ record {
+      area = fold settled i.area (each_effects n ps);
+      moves = i.moves ++ moves_in (flat_map (λ es. es) (each_effects n ps));
+      coalesced = i.coalesced || rounds i.area (each_effects n ps);
+      frames = i.frames + length ps;
+    }
+added [] i n e =
+    made i.area i.moves (i.moves ++ []) i.coalesced (i.coalesced || false) i.frames (i.frames + 0)
+    (sym (append-nil i.moves)) (or_none i.coalesced) (omega arith)
 added (ops ∷ ps) i n e =
     let es : List Effect = effects n ops in
     let next : Interval = with_effects i es in
-    let rest : List Effect = flat_map (λ fs. fs) (each_effects (n + scrolls ops) ps) in
+    let later : List (List Effect) = each_effects (n + scrolls ops) ps in
+    let rest : List Effect = flat_map (λ fs. fs) later in
     let alike : Alike (length (i.moves ++ moves_in es)) (n + scrolls ops) =
     subst (λ k. Alike k (n + scrolls ops)) (sym (length-append i.moves (moves_in es)))
     (Alike-trans _ (n + length (moves_in es)) _ (Alike-more (length i.moves) n (length (moves_in es)) e) (Alike-moves n ops)) in
     ap (λ fs. fold with_present (with_effects i fs) ps) (effects-alike (length i.moves) n ops e)
     ∙ (added ps next (n + scrolls ops) alike
-    ∙ made (fold dirtied (dirtied i.area es) (each_effects (n + scrolls ops) ps)) _ _ _ _
+    ∙ made (fold settled (settled i.area es) later) _ _ _ _ _ _
     (append_assoc i.moves (moves_in es) (moves_in rest) ∙ ap (λ ms. i.moves ++ ms) (sym (moves_in-append es rest)))
+    (or_assoc i.coalesced (must_round i.area es) (rounds (settled i.area es) later))
     (omega arith))
 
 pub composes : Composes
-unfolding dirt moves
-composes w h ps = added ps (nothing w h) 0 (inl refl) ∙ made (fold dirtied (nowhere w h) (each_effects 0 ps)) _ _ _ _ refl (omega arith)
-
--- no more than sixteen moves are told
-few_here : (n l s : ℕ) (m : Move) (b : Bool) → nat_lt n MAX_MOVES ≡ b → l ≤ MAX_MOVES - (n + 1) → l ≤ s
-    → (length (move_in (cond b (shifted m) (over m.dest))) + l ≤ MAX_MOVES - n)
-    × (length (move_in (cond b (shifted m) (over m.dest))) + l ≤ 1 + s)
-few_here n l s m true t e f =
-    let below : n < MAX_MOVES = ltb-true n MAX_MOVES t in
-    (omega (arith, below, e), omega (arith, f))
-few_here n l s m false t e f = (omega (arith, e), omega (arith, f))
-
-few_in : (n : ℕ) (ops : List Op) → (length (moves_in (effects n ops)) ≤ MAX_MOVES - n) × (length (moves_in (effects n ops)) ≤ scrolls ops)
-few_in n [] = (omega arith, omega arith)
-few_in n (Fill r c ∷ ops) = let f = few_in (n + 0) ops in (omega (arith, f.0), omega (arith, f.1))
-few_in n (Blit r c ∷ ops) = let f = few_in (n + 0) ops in (omega (arith, f.0), omega (arith, f.1))
-few_in n (Cover r c ∷ ops) = let f = few_in (n + 0) ops in (omega (arith, f.0), omega (arith, f.1))
-few_in n (Scroll m ∷ ops) =
-    let f = few_in (n + 1) ops in
-    let rest : List Move = moves_in (effects (n + 1) ops) in
-    let both = few_here n (length rest) (scrolls ops) m (nat_lt n MAX_MOVES) refl f.0 f.1 in
-    let long = length-append (move_in (scroll_effect n m)) rest in
-    (omega (arith, both.0, long), omega (arith, both.1, long))
-
-few_each : (n : ℕ) (ps : List (List Op)) → length (moves_in (flat_map (λ es. es) (each_effects n ps))) ≤ MAX_MOVES - n
-few_each n [] = omega arith
-few_each n (ops ∷ ps) =
-    let rest : List Effect = flat_map (λ es. es) (each_effects (n + scrolls ops) ps) in
-    let f = few_in n ops in
-    let later : length (moves_in rest) ≤ MAX_MOVES - (n + scrolls ops) = few_each (n + scrolls ops) ps in
-    let long : length (moves_in (effects n ops ++ rest)) ≡ length (moves_in (effects n ops)) + length (moves_in rest) =
-    ap length (moves_in-append (effects n ops) rest) ∙ length-append (moves_in (effects n ops)) (moves_in rest) in
-    omega (arith, f.0, f.1, later, long)
-
-pub few_moves : (ps : List (List Op)) → length (moves ps) ≤ MAX_MOVES
-unfolding moves
-few_moves ps = omega (arith, few_each 0 ps)
+unfolding dirt moves is_coalesced
+composes w h ps =
+    added ps (nothing w h) 0 (inl refl)
+    ∙ made (fold settled (nowhere w h) (each_effects 0 ps)) _ _ _ _ _ _ refl refl (omega arith)

@@ -1,16 +1,18 @@
 -- Small intervals on a surface of 4 by 3 points: where points come from, what is dirty, what is told as a move, and what
 -- is rebuilt.
-use Rattle.std.proofs.Common.{◌≡◌, ℕ, true, false, pos, List, [], ◌∷◌, length, replicate, refl}
+use Rattle.std.proofs.Common.{◌≡◌, ℕ, true, false, pos, List, [], ◌∷◌, length, replicate, map, ◌+◌, ◌*◌, refl}
 use Rattle.dd_geom.specs.declared.rect.Rect.{Rect}
 use Rattle.dd_geom.specs.declared.rect.Move.{Move}
 use Rattle.dd_geom.specs.Grid.{Grid, rows}
 use Rattle.dd_grid.specs.Drawing.{black, blank, seen}
-use Rattle.dd_bits.specs.Runs.{run_end, runs}
+use Rattle.dd_bits.specs.CanonicalList.{run_end, same_rows, canonical_list}
+use Rattle.dd_bits.specs.Tiles.{tiles}
+use Rattle.dd_coal.specs.Power.{least_power_from, power}
 use Rattle.dd_ops.specs.declared.operations.Op.{Op}
 use Rattle.dd_ops.specs.declared.operations.Op.TheVariants.{Fill, Blit, Cover, Scroll}
 use Rattle.dd_ops.specs.Operations.{drawn}
-use Rattle.std.specs.List.{fold}
-use Rattle.dd_acc.specs.Effects.{over, shifted, fresh, kept, origin, dirtied, dirt, moves, any_reaches}
+use Rattle.std.specs.List.{fold, range_with_len}
+use Rattle.dd_acc.specs.Effects.{over, shifted, fresh, kept, origin, dirtied, dirt, moves, any_reaches, is_coalesced}
 use Rattle.dd_acc.specs.Rebuild.{all_moved, rebuild}
 
 abbrev rect : ℕ → ℕ → ℕ → ℕ → Rect
@@ -27,31 +29,31 @@ abbrev corner : List Op
 corner = Fill (rect 2 0 4 2) 7 ∷ []
 
 -- no present, and a present that draws nothing
-no_dirt : runs (dirt 4 3 []) ≡ []
-unfolding dirt dirtied runs
+no_dirt : canonical_list (dirt 4 3 []) ≡ []
+unfolding dirt dirtied canonical_list same_rows run_end tiles power least_power_from
 no_dirt = refl
 
-empty_present : runs (dirt 4 3 ([] ∷ [])) ≡ []
-unfolding dirt dirtied runs run_end
+empty_present : canonical_list (dirt 4 3 ([] ∷ [])) ≡ []
+unfolding dirt dirtied canonical_list same_rows run_end tiles power least_power_from
 empty_present = refl
 
-one_present : runs (dirt 4 3 (red ∷ [])) ≡ rect 1 1 3 2 ∷ []
-unfolding dirt dirtied runs run_end
+one_present : canonical_list (dirt 4 3 (red ∷ [])) ≡ rect 1 1 3 2 ∷ []
+unfolding dirt dirtied canonical_list same_rows run_end tiles power least_power_from
 one_present = refl
 
 -- two presents that overlap
-two_presents : runs (dirt 4 3 (red ∷ corner ∷ [])) ≡ rect 2 0 4 1 ∷ rect 1 1 4 2 ∷ []
-unfolding dirt dirtied runs run_end
+two_presents : canonical_list (dirt 4 3 (red ∷ corner ∷ [])) ≡ rect 2 0 4 1 ∷ rect 1 1 4 2 ∷ []
+unfolding dirt dirtied canonical_list same_rows run_end tiles power least_power_from
 two_presents = refl
 
 -- what two presents dirty is dirty after one present of both
-one_of_both : runs (dirt 4 3 ((Fill (rect 1 1 3 2) 16711680 ∷ Fill (rect 2 0 4 2) 7 ∷ []) ∷ [])) ≡ rect 2 0 4 1 ∷ rect 1 1 4 2 ∷ []
-unfolding dirt dirtied runs run_end
+one_of_both : canonical_list (dirt 4 3 ((Fill (rect 1 1 3 2) 16711680 ∷ Fill (rect 2 0 4 2) 7 ∷ []) ∷ [])) ≡ rect 2 0 4 1 ∷ rect 1 1 4 2 ∷ []
+unfolding dirt dirtied canonical_list same_rows run_end tiles power least_power_from
 one_of_both = refl
 
 -- an image and a cover are drawn like a fill
-image_and_cover : runs (dirt 4 3 ((Blit (rect 0 0 1 1) (1 ∷ []) ∷ Cover (rect 2 2 4 3) (1 ∷ 2 ∷ []) ∷ []) ∷ [])) ≡ rect 0 0 1 1 ∷ rect 2 2 4 3 ∷ []
-unfolding dirt dirtied runs run_end
+image_and_cover : canonical_list (dirt 4 3 ((Blit (rect 0 0 1 1) (1 ∷ []) ∷ Cover (rect 2 2 4 3) (1 ∷ 2 ∷ []) ∷ []) ∷ [])) ≡ rect 0 0 1 1 ∷ rect 2 2 4 3 ∷ []
+unfolding dirt dirtied canonical_list same_rows run_end tiles power least_power_from
 image_and_cover = refl
 
 -- a scroll of what is clean is a move and leaves no dirt
@@ -62,8 +64,8 @@ alone_moves : moves alone ≡ from 0 0 (rect 2 0 4 1) ∷ []
 unfolding moves
 alone_moves = refl
 
-alone_dirt : runs (dirt 4 3 alone) ≡ []
-unfolding dirt dirtied runs run_end
+alone_dirt : canonical_list (dirt 4 3 alone) ≡ []
+unfolding dirt dirtied canonical_list same_rows run_end tiles power least_power_from
 alone_dirt = refl
 
 -- a scroll carries the dirt of its source along, also where it overlaps itself
@@ -74,16 +76,16 @@ carried_moves : moves carried ≡ from 0 0 (rect 1 0 3 1) ∷ []
 unfolding moves
 carried_moves = refl
 
-carried_dirt : runs (dirt 4 3 carried) ≡ rect 0 0 3 1 ∷ []
-unfolding dirt dirtied runs run_end
+carried_dirt : canonical_list (dirt 4 3 carried) ≡ rect 0 0 3 1 ∷ []
+unfolding dirt dirtied canonical_list same_rows run_end tiles power least_power_from
 carried_dirt = refl
 
 -- no dirt stays under a destination whose source is clean
 abbrev covered_up : List (List Op)
 covered_up = (Fill (rect 2 0 3 1) 16711680 ∷ []) ∷ (Scroll (from 0 0 (rect 2 0 3 1)) ∷ []) ∷ []
 
-covered_up_dirt : runs (dirt 4 3 covered_up) ≡ []
-unfolding dirt dirtied runs run_end
+covered_up_dirt : canonical_list (dirt 4 3 covered_up) ≡ []
+unfolding dirt dirtied canonical_list same_rows run_end tiles power least_power_from
 covered_up_dirt = refl
 
 -- seventeen presents of one scroll each: sixteen moves, and the last is a draw of its destination
@@ -97,8 +99,8 @@ sixteen_moves : moves seventeen ≡ replicate 16 (from 0 0 (rect 0 1 4 2))
 unfolding moves
 sixteen_moves = refl
 
-seventeenth_is_dirt : runs (dirt 4 3 seventeen) ≡ rect 0 1 4 2 ∷ []
-unfolding dirt dirtied runs run_end
+seventeenth_is_dirt : canonical_list (dirt 4 3 seventeen) ≡ rect 0 1 4 2 ∷ []
+unfolding dirt dirtied canonical_list same_rows run_end tiles power least_power_from
 seventeenth_is_dirt = refl
 
 -- all in one present they count alike
@@ -146,8 +148,8 @@ rebuilt_red = refl
 abbrev newest : Grid ℕ
 newest = seen (drawn (drawn (black 4 3) red) corner)
 
-rebuilt_both : rebuild (blank 4 3) [] (runs (dirt 4 3 (red ∷ corner ∷ []))) newest ≡ newest
-unfolding dirt dirtied runs run_end
+rebuilt_both : rebuild (blank 4 3) [] (canonical_list (dirt 4 3 (red ∷ corner ∷ []))) newest ≡ newest
+unfolding dirt dirtied canonical_list same_rows run_end tiles power least_power_from
 rebuilt_both = refl
 
 -- without the rectangle it stays black
@@ -158,8 +160,8 @@ not_rebuilt = refl
 abbrev scrolled_once : Grid ℕ
 scrolled_once = seen (fold drawn (black 4 3) carried)
 
-rebuilt_scrolled : rebuild (blank 4 3) (moves carried) (runs (dirt 4 3 carried)) scrolled_once ≡ scrolled_once
-unfolding moves dirt dirtied runs run_end
+rebuilt_scrolled : rebuild (blank 4 3) (moves carried) (canonical_list (dirt 4 3 carried)) scrolled_once ≡ scrolled_once
+unfolding moves dirt dirtied canonical_list same_rows run_end tiles power least_power_from
 rebuilt_scrolled = refl
 
 -- two moves of one frame are drawn in order: the other way round they give another surface
@@ -184,3 +186,31 @@ in_reach = refl
 
 out_of_reach : any_reaches carried 3 0 ≡ false
 out_of_reach = refl
+
+-- a fill two rows high is one rectangle
+two_high : canonical_list (dirt 4 3 ((Fill (rect 0 0 2 2) 7 ∷ []) ∷ [])) ≡ rect 0 0 2 2 ∷ []
+unfolding dirt dirtied canonical_list same_rows run_end tiles power least_power_from
+two_high = refl
+
+-- two fills that meet in a corner are cut into bands
+in_bands : canonical_list (dirt 4 3 ((Fill (rect 0 0 1 2) 7 ∷ Fill (rect 0 0 3 1) 7 ∷ []) ∷ [])) ≡ rect 0 0 3 1 ∷ rect 0 1 1 2 ∷ []
+unfolding dirt dirtied canonical_list same_rows run_end tiles power least_power_from
+in_bands = refl
+
+-- every second of 130 points: 64 rectangles are no more than a frame may have, and 65 are rounded
+abbrev point : ℕ → Op
+point k = Fill (rect (2 * k) 0 (2 * k + 1) 1) 7
+
+abbrev sixty_four : List Op
+sixty_four = map point (range_with_len 0 64)
+
+as_many_as_may_be : (length (canonical_list (dirt 130 1 (sixty_four ∷ []))) ≡ 64) × (is_coalesced 130 1 (sixty_four ∷ []) ≡ false)
+unfolding dirt dirtied canonical_list same_rows run_end tiles power least_power_from is_coalesced
+as_many_as_may_be = (refl, refl)
+
+abbrev one_more : List (List Op)
+one_more = sixty_four ∷ (point 64 ∷ []) ∷ []
+
+one_too_many : (canonical_list (dirt 130 1 one_more) ≡ rect 0 0 130 1 ∷ []) × (is_coalesced 130 1 one_more ≡ true)
+unfolding dirt dirtied canonical_list same_rows run_end tiles power least_power_from is_coalesced
+one_too_many = (refl, refl)

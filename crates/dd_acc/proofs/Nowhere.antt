@@ -1,11 +1,18 @@
--- The empty set has no runs.
-use Rattle.std.proofs.Common.{◌≡◌, ℕ, ◌-◌, Bool, false, List, [], ◌∷◌, ◌++◌, refl, ap, ◌∙◌, ⊎_elim}
+-- The empty set has no rectangles, and the sets of an interval are sets of points of a surface.
+use Rattle.std.proofs.Common.{◌≡◌, ℕ, ◌-◌, ◌^◌, Bool, true, false, List, [], ◌∷◌, ◌++◌, refl, if◌then◌else◌, ap, ◌∙◌, sym, subst, ⊎_elim}
 use Rattle.std.specs.List.{flat_map, range_with_len}
 use Rattle.std.proofs.lemmas.Bool.{and_left, cond-false, cases_lt}
 use Rattle.dd_geom.specs.declared.rect.Rect.{Rect}
+use Rattle.dd_geom.specs.Rect.{IsSize}
+use Rattle.dd_geom.specs.Grid.{Grid}
 use Rattle.dd_geom.proofs.GridLemmas.{value_at-grid, value_at-right, value_at-below}
-use Rattle.dd_bits.specs.Area.{is_in, nowhere}
-use Rattle.dd_bits.specs.Runs.{starts_run, run_end, row_rect, run_at, row_runs, runs}
+use Rattle.dd_bits.specs.Area.{is_in, nowhere, IsArea}
+use Rattle.dd_bits.specs.CanonicalList.{starts_run, run_end, rect_from, run_at, row_runs, starts_band, band_end, band_at, canonical_list}
+use Rattle.dd_bits.specs.Tiles.{tiles}
+use Rattle.dd_bits.proofs.TileLemmas.{width-tiles, height-tiles, whole-tiles}
+use Rattle.dd_coal.specs.Power.{power, rounded_to}
+use Rattle.dd_acc.specs.Effects.{Effect, dirtied, settled}
+use Rattle.dd_acc.proofs.Origins.{width-dirtied, height-dirtied, whole-dirtied, whole-nowhere}
 
 is_in-nowhere : (w h x y : ℕ) → is_in (nowhere w h) x y ≡ false
 is_in-nowhere w h x y = ⊎_elim
@@ -20,12 +27,33 @@ all_none : (f : ℕ → List Rect) → ((x : ℕ) → f x ≡ []) → (xs : List
 all_none f none [] = refl
 all_none f none (x ∷ xs) = ap (λ ys. ys ++ flat_map f xs) (none x) ∙ all_none f none xs
 
-none_starts : (p : ℕ → Bool) (w y x : ℕ) → p x ≡ false → run_at p w y x ≡ []
-none_starts p w y x e = cond-false (starts_run p x) (row_rect y x (run_end p x (w - x)) ∷ []) [] (and_left (p x) _ e)
+none_starts : (p : ℕ → Bool) (w top bottom x : ℕ) → p x ≡ false → run_at p w top bottom x ≡ []
+none_starts p w top bottom x e =
+    cond-false (starts_run p x) (rect_from x top (run_end p x (w - x)) bottom ∷ []) [] (and_left (p x) _ e)
 
-pub runs-nowhere : (w h : ℕ) → runs (nowhere w h) ≡ []
-unfolding runs
-runs-nowhere w h =
-    all_none (λ y. row_runs (λ x. is_in (nowhere w h) x y) w y)
-    (λ y. all_none (run_at (λ x. is_in (nowhere w h) x y) w y) (λ x. none_starts (λ a. is_in (nowhere w h) a y) w y x (is_in-nowhere w h x y)) (range_with_len 0 w))
+if_none : (b : Bool) (rs : List Rect) → rs ≡ [] → (if b then rs else []) ≡ []
+if_none true rs e = e
+if_none false rs e = refl
+
+pub list-nowhere : (w h : ℕ) → canonical_list (nowhere w h) ≡ []
+unfolding canonical_list
+list-nowhere w h =
+    all_none (band_at (nowhere w h))
+    (λ y. if_none (starts_band (nowhere w h) y) _
+    (all_none (run_at (λ x. is_in (nowhere w h) x y) w y (band_end (nowhere w h) y))
+    (λ x. none_starts (λ a. is_in (nowhere w h) a y) w y (band_end (nowhere w h) y) x (is_in-nowhere w h x y)) (range_with_len 0 w)))
     (range_with_len 0 h)
+
+sized : (w h v k : ℕ) → v ≡ w → k ≡ h → IsSize w h → IsSize v k
+sized w h v k e f size = subst (λ (n : ℕ). IsSize n k) (sym e) (subst (λ (n : ℕ). IsSize w n) (sym f) size)
+
+pub IsArea-nowhere : (w h : ℕ) → IsSize w h → IsArea (nowhere w h)
+IsArea-nowhere w h size = record { size = size; whole = whole-nowhere w h }
+
+pub IsArea-dirtied : (g : Grid Bool) (es : List Effect) → IsArea g → IsArea (dirtied g es)
+IsArea-dirtied g es area =
+    record { size = sized g.width g.height _ _ (width-dirtied g es) (height-dirtied g es) area.size; whole = whole-dirtied g es }
+
+pub IsArea-rounded : (j : ℕ) (g : Grid Bool) → IsArea g → IsArea (rounded_to j g)
+IsArea-rounded j g area =
+    record { size = sized g.width g.height _ _ (width-tiles (2 ^ j) g) (height-tiles (2 ^ j) g) area.size; whole = whole-tiles (2 ^ j) g }

@@ -1,11 +1,12 @@
 -- What operations do to a point of the surface, and where a point comes from, followed backward.
-use Rattle.std.specs.Prelude.{◌≡◌, ℕ, zero, ◌+◌, ◌*◌, length, Bool, true, false, nat_lt, if◌then◌else◌, List, [], ◌∷◌, ◌++◌, fold}
+use Rattle.std.specs.Prelude.{◌≡◌, ℕ, zero, ◌+◌, ◌*◌, ◌<◌, length, Bool, true, false, ◌||◌, nat_lt, if◌then◌else◌, List, [], ◌∷◌, ◌++◌, fold}
 use Rattle.std.specs.List.{flat_map, list_all, list_any}
 use Rattle.dd_geom.specs.declared.rect.Rect.{Rect}
 use Rattle.dd_geom.specs.declared.rect.Move.{Move}
 use Rattle.dd_geom.specs.Rect.{has, is_move_inside, source_x, source_y}
 use Rattle.dd_geom.specs.Grid.{Grid, grid}
 use Rattle.dd_bits.specs.Area.{is_in, nowhere, with_rect, moved_over}
+use Rattle.dd_coal.specs.Power.{power, coalesced}
 use Rattle.dd_ops.specs.declared.operations.Op.{Op}
 use Rattle.dd_ops.specs.declared.operations.Op.TheVariants.{Fill, Blit, Cover, Scroll}
 use Rattle.dd_ops.specs.Operations.{all_fit}
@@ -96,13 +97,29 @@ touched area es x y = is_touched area (origin es x y)
 abbrev pub drawn_afresh : List Effect → ℕ → ℕ → Bool
 drawn_afresh es = touched (λ x y. false) es
 
--- the dirty points after the effects of one present more
+-- the points that the effects of one present more touch
 unfoldable pub dirtied : Grid Bool → List Effect → Grid Bool
 dirtied g es = grid g.width g.height (touched (is_in g) es)
 
+-- the dirty points after one present more: rounded until their list is short enough
+abbrev pub settled : Grid Bool → List Effect → Grid Bool
+settled g es = coalesced (dirtied g es)
+
 -- the dirty points of an interval, told by its presents
 unfoldable pub dirt : ℕ → ℕ → List (List Op) → Grid Bool
-dirt w h presents = fold dirtied (nowhere w h) (each_effects 0 presents)
+dirt w h presents = fold settled (nowhere w h) (each_effects 0 presents)
+
+-- a present's touched points have to be rounded
+abbrev pub must_round : Grid Bool → List Effect → Bool
+must_round g es = nat_lt 0 (power (dirtied g es))
+
+-- those of some present had to be
+abbrev pub rounds : Grid Bool → List (List Effect) → Bool
+rounds g [] = false
+rounds g (es ∷ ess) = must_round g es || rounds (settled g es) ess
+
+unfoldable pub is_coalesced : ℕ → ℕ → List (List Op) → Bool
+is_coalesced w h presents = rounds (nowhere w h) (each_effects 0 presents)
 
 -- each operation of each present fits a surface
 abbrev pub presents_fit : ℕ → ℕ → List (List Op) → Bool
@@ -123,11 +140,15 @@ any_reaches presents x y = list_any (λ ops. list_any (λ op. has (reach op) x y
 abbrev pub TouchedComposes : Type 0
 TouchedComposes = (area : ℕ → ℕ → Bool) (a b : List Effect) (x y : ℕ) → touched (touched area a) b x y ≡ touched area (a ++ b) x y
 
--- The dirty points of an interval are those that all of its effects together draw afresh, and each of them lies in
--- the rectangle or the destination of one of its operations.
+-- Each point of the surface that the effects of an interval together draw afresh is dirty. Where no present had to be
+-- rounded the dirty points are exactly these, and each of them lies in the rectangle or the destination of one of the
+-- operations.
 pub record IsHonest (w h : ℕ) (presents : List (List Op)) : Type 0 where
-  pub exact : dirt w h presents ≡ grid w h (drawn_afresh (all_effects presents))
-  pub reached : (x y : ℕ) → is_in (dirt w h presents) x y ≡ true → any_reaches presents x y ≡ true
+  pub whole : (x y : ℕ) → x < w → y < h → drawn_afresh (all_effects presents) x y ≡ true → is_in (dirt w h presents) x y ≡ true
+  pub exact : is_coalesced w h presents ≡ false → dirt w h presents ≡ grid w h (drawn_afresh (all_effects presents))
+  pub reached :
+      is_coalesced w h presents ≡ false → (x y : ℕ) → is_in (dirt w h presents) x y ≡ true
+      → any_reaches presents x y ≡ true
 
 abbrev pub HonestDirt : Type 0
 HonestDirt = (w h : ℕ) (presents : List (List Op)) → presents_fit w h presents ≡ true → IsHonest w h presents

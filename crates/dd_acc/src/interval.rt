@@ -1,14 +1,19 @@
-//! What is accumulated over an interval: its moves, its dirt, and how many presents it has.
+//! What is accumulated over an interval: its moves, its dirt, whether that was rounded, and how many
+//! presents it has.
 
 ghost use Rattle.std.specs.Prelude.{◌≡◌, ◌+◌, ◌-◌, ◌^◌, ◌<◌, ◌++◌, length, IsTrue, IfOk, OnOk};
 ghost use Rattle.dd_geom.specs.Rect.{IsSize, is_move_inside};
-ghost use Rattle.dd_bits.specs.Runs.{runs};
+ghost use Rattle.dd_bits.specs.Area.{IsArea};
+ghost use Rattle.dd_bits.specs.CanonicalList.{canonical_list};
+ghost use Rattle.dd_coal.specs.declared.coalescing.TheConstants.{MAX_RECTS};
 ghost use Rattle.dd_ops.specs.Operations.{fits, all_fit};
 ghost use Rattle.dd_acc.specs.Effects.{scroll_effect, effect, effects, move_in, moves_in, dirtied, with_effect, IsWhole};
 ghost use Rattle.dd_acc.specs.Interval.{nothing, with_present};
 
+use crate::lists::{FrameMoves, FrameRects};
 use dd_bits::Area;
-use dd_geom::{Move, Moves, Rect, Rects};
+use dd_coal::{Coalesced, coalesce};
+use dd_geom::{Move, Rect};
 use dd_ops::{Op, Ops};
 use std::alloc::{AllocError, Global};
 use std::marker::Model;
@@ -17,37 +22,38 @@ use std::marker::Model;
 /// one counts as a draw of its destination.
 pub const MAX_MOVES: usize = 16;
 
-/// What is accumulated over an interval. Contracts see the set of its dirty points, its moves and
-/// the number of its presents.
+/// What is accumulated over an interval. Contracts see the set of its dirty points, its moves,
+/// whether a present had to be rounded, and the number of presents.
 #[derive(Drop)]
 pub struct Acc<A: Area> {
     area: A,
-    dirt: Rects,
-    moves: Vec<Move>,
+    dirt: FrameRects,
+    moves: FrameMoves,
+    coalesced: bool,
     frames: u32,
 }
 
 impl<A: Area> Model for Acc<A> {
     ghost use Rattle.std.specs.Prelude.{◌≡◌};
-    ghost use Rattle.dd_bits.specs.Runs.{runs};
-    ghost use Rattle.dd_acc.specs.Effects.{IsWhole};
+    ghost use Rattle.dd_bits.specs.Area.{IsArea};
+    ghost use Rattle.dd_bits.specs.CanonicalList.{canonical_list};
     ghost use Rattle.dd_acc.specs.Interval.{Interval};
 
     ghost Value = { Interval };
 
-    ghost view = { λ a. record { area = A.points a.area; moves = a.moves.items; frames = a.frames } };
+    ghost view = { λ a. record { area = A.points a.area; moves = a.moves; coalesced = a.coalesced; frames = a.frames } };
 
-    ghost invariant = { λ a. (a.dirt ≡ runs (A.points a.area)) × IsWhole (A.points a.area) };
+    ghost invariant = { λ a. (a.dirt ≡ canonical_list (A.points a.area)) × IsArea (A.points a.area) };
 }
 
 /// Adds a scroll: a move, or a draw of its destination.
-fn add_scroll<A: Area>(area: &mut A, moves: &mut Vec<Move>, mv: Move) -> Result<(), AllocError>
+fn add_scroll<A: Area>(area: &mut A, moves: &mut FrameMoves, mv: Move) -> Result<(), AllocError>
     requires { IsTrue (is_move_inside mv (A.points area.old).width (A.points area.old).height) }
-    ensures area { OnOk result (A.points area.new ≡ with_effect (A.points area.old) (scroll_effect (length moves.old.items) mv)) }
-    ensures moves { OnOk result (moves.new.items ≡ moves.old.items ++ move_in (scroll_effect (length moves.old.items) mv)) }
+    ensures area { OnOk result (A.points area.new ≡ with_effect (A.points area.old) (scroll_effect (length moves.old) mv)) }
+    ensures moves { OnOk result (moves.new ≡ moves.old ++ move_in (scroll_effect (length moves.old) mv)) }
 {
-    if moves.len() < MAX_MOVES {
-        moves.push(mv)?;
+    if moves.as_slice().len() < MAX_MOVES {
+        moves.push(mv);
         area.move_over(mv)
     } else {
         area.add(mv.dest)
@@ -55,10 +61,10 @@ fn add_scroll<A: Area>(area: &mut A, moves: &mut Vec<Move>, mv: Move) -> Result<
 }
 
 /// Adds what one operation does.
-fn add_effect<A: Area>(area: &mut A, moves: &mut Vec<Move>, op: &Op) -> Result<(), AllocError>
+fn add_effect<A: Area>(area: &mut A, moves: &mut FrameMoves, op: &Op) -> Result<(), AllocError>
     requires { IsTrue (fits (A.points area.old).width (A.points area.old).height op.now) }
-    ensures area { OnOk result (A.points area.new ≡ with_effect (A.points area.old) (effect (length moves.old.items) op.now)) }
-    ensures moves { OnOk result (moves.new.items ≡ moves.old.items ++ move_in (effect (length moves.old.items) op.now)) }
+    ensures area { OnOk result (A.points area.new ≡ with_effect (A.points area.old) (effect (length moves.old) op.now)) }
+    ensures moves { OnOk result (moves.new ≡ moves.old ++ move_in (effect (length moves.old) op.now)) }
 {
     match op {
         Op::Fill { rect, .. } => area.add(*rect),
@@ -69,11 +75,11 @@ fn add_effect<A: Area>(area: &mut A, moves: &mut Vec<Move>, op: &Op) -> Result<(
 }
 
 /// Adds what the operations do.
-fn add_effects<A: Area>(area: &mut A, moves: &mut Vec<Move>, ops: &[Op]) -> Result<(), AllocError>
+fn add_effects<A: Area>(area: &mut A, moves: &mut FrameMoves, ops: &[Op]) -> Result<(), AllocError>
     requires fit { IsTrue (all_fit (A.points area.old).width (A.points area.old).height ops.now) }
     requires whole { IsWhole (A.points area.old) }
-    ensures area { OnOk result (A.points area.new ≡ dirtied (A.points area.old) (effects (length moves.old.items) ops.now)) }
-    ensures moves { OnOk result (moves.new.items ≡ moves.old.items ++ moves_in (effects (length moves.old.items) ops.now)) }
+    ensures area { OnOk result (A.points area.new ≡ dirtied (A.points area.old) (effects (length moves.old) ops.now)) }
+    ensures moves { OnOk result (moves.new ≡ moves.old ++ moves_in (effects (length moves.old) ops.now)) }
 {
     for op in ops {
         add_effect(area, moves, op)?;
@@ -88,11 +94,11 @@ impl<A: Area> Acc<A> {
         ensures { IfOk result (λ acc. acc ≡ nothing w h) }
     {
         let area = A::empty(alloc, w, h)?;
-        let dirt = Rects::from_vec(Vec::new(alloc));
         Ok(Acc {
             area,
-            dirt,
-            moves: Vec::new(alloc),
+            dirt: FrameRects::new(),
+            moves: FrameMoves::new(),
+            coalesced: false,
             frames: 0,
         })
     }
@@ -106,15 +112,17 @@ impl<A: Area> Acc<A> {
         let Acc {
             mut area,
             mut moves,
+            coalesced,
             frames,
             ..
         } = self;
         add_effects(&mut area, &mut moves, ops.as_slice())?;
-        let dirt = area.list()?;
+        let Coalesced { area, rects, power } = coalesce(area)?;
         Ok(Acc {
             area,
-            dirt,
+            dirt: FrameRects::from_slice(rects.as_slice()),
             moves,
+            coalesced: coalesced || power > 0,
             frames: frames + 1,
         })
     }
@@ -126,20 +134,27 @@ impl<A: Area> Acc<A> {
         self.moves.as_slice()
     }
 
-    /// The dirty rectangles: the runs of the dirty points, row by row.
+    /// The dirty rectangles, at most 64: the canonical list of the dirty points.
     pub fn dirt(&self) -> &[Rect]
-        ensures { result.now ≡ runs self.now.area }
+        ensures { result.now ≡ canonical_list self.now.area }
     {
         self.dirt.as_slice()
     }
 
     /// The moves and the dirty rectangles, and no more than they.
-    pub fn into_lists(self) -> (Moves, Rects)
+    pub fn into_lists(self) -> (FrameMoves, FrameRects)
         ensures moves { result.0 ≡ self.moves }
-        ensures dirt { result.1 ≡ runs self.area }
+        ensures dirt { result.1 ≡ canonical_list self.area }
     {
         let Acc { moves, dirt, .. } = self;
-        (Moves::from_vec(moves), dirt)
+        (moves, dirt)
+    }
+
+    /// Whether the dirty points of some present had to be rounded.
+    pub fn coalesced(&self) -> bool
+        ensures { result ≡ self.now.coalesced }
+    {
+        self.coalesced
     }
 
     /// The number of presents.

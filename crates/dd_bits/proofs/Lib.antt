@@ -1,6 +1,13 @@
-pub mod RunEnd
-pub mod RowRuns
+pub mod Bands
 pub mod Cover
-pub mod PlaneGrids
 pub mod Examples
 pub mod Few
+pub mod Has
+pub mod PlaneGrids
+pub mod RoundLemmas
+pub mod RowRuns
+pub mod RunEnd
+pub mod Sorted
+pub mod Tells
+pub mod TileExamples
+pub mod TileLemmas

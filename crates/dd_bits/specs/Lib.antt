@@ -1,2 +1,4 @@
 pub mod Area
-pub mod Runs
+pub mod CanonicalList
+pub mod Tiles
+pub mod Rounding

@@ -7,7 +7,10 @@ mod plane;
 mod runs;
 #[cfg(test)]
 mod tests;
+#[cfg(test)]
+mod tile_tests;
+mod tiling;
 
 pub use area::Area;
-pub use laws::{runs_cover, runs_inside};
+pub use laws::{list_covers, list_has, list_inside, list_sorted, list_tells, tiles_nest};
 pub use plane::Plane;

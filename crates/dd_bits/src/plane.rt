@@ -1,10 +1,11 @@
 //! A set of points as a plane: one cell for each point of the surface, row by row.
 
-ghost use Rattle.std.specs.Prelude.{◌≡◌, ◌<◌, length};
+ghost use Rattle.std.specs.Prelude.{◌≡◌, ◌≤◌, ◌<◌, length};
 ghost use Rattle.dd_geom.specs.Grid.{row};
 
 use crate::area::Area;
 use crate::runs::push_runs;
+use crate::tiling::round_to_tiles;
 use dd_geom::{Move, Rect, Rects, paint, scroll, sides_of};
 use std::alloc::{AllocError, Global};
 use std::marker::Model;
@@ -34,6 +35,7 @@ impl Model for Plane {
 
 impl Plane {
     ghost use Rattle.dd_bits.specs.Area.{IsArea};
+    ghost use Rattle.dd_bits.specs.CanonicalList.{band_end};
 
     /// The cells of a row.
     fn row(&self, y: u32) -> &[bool]
@@ -46,12 +48,27 @@ impl Plane {
         let start = y as usize * width;
         &self.cells[start..start + width]
     }
+
+    /// The first row below row `y` that differs from it, or the surface's height where there is none.
+    fn band_end(&self, y: u32) -> u32
+        requires { y < self.now.height }
+        ensures { result ≡ band_end self.now y }
+    {
+        let first = self.row(y);
+        for z in y + 1..self.height {
+            if self.row(z) != first {
+                return z;
+            }
+        }
+        self.height
+    }
 }
 
 impl Area for Plane {
     ghost use Rattle.std.specs.Prelude.{IsTrue, IsOk, OnOk, OnErr};
     ghost use Rattle.dd_geom.specs.Rect.{is_inside, is_move_inside};
     ghost use Rattle.dd_bits.specs.Area.{with_rect, moved_over};
+    ghost use Rattle.dd_bits.specs.Tiles.{tiles};
 
     ghost points = { λ p. p };
 
@@ -94,6 +111,23 @@ impl Area for Plane {
         Ok(())
     }
 
+    /// Takes no memory.
+    fn tiles(&mut self, t: u32) -> Result<(), AllocError>
+        requires { 1 ≤ t }
+        ensures succeeds { IsOk result }
+        ensures ok { OnOk result (self.new ≡ tiles t self.old) }
+        ensures err { OnErr result (self.new ≡ self.old) }
+        ensures width { self.new.width ≡ self.old.width }
+        ensures height { self.new.height ≡ self.old.height }
+    {
+        let width = self.width as usize;
+        let height = self.height as usize;
+        if t > 1 {
+            round_to_tiles(&mut self.cells, width, height, t as usize);
+        }
+        Ok(())
+    }
+
     fn has(&self, x: u32, y: u32) -> bool {
         self.cells[y as usize * self.width as usize + x as usize]
     }
@@ -101,8 +135,11 @@ impl Area for Plane {
     /// Takes the list's memory from the plane's own allocator.
     fn list(&self) -> Result<Rects, AllocError> {
         let mut out = Vec::new(*self.cells.allocator());
-        for y in 0..self.height {
-            push_runs(&mut out, self.row(y), y)?;
+        let mut y = 0;
+        while y < self.height {
+            let end = self.band_end(y);
+            push_runs(&mut out, self.row(y), y, end)?;
+            y = end;
         }
         Ok(Rects::from_vec(out))
     }

@@ -2,7 +2,7 @@
 
 ghost use Rattle.std.specs.Prelude.{◌≡◌, ◌≤◌, ◌<◌, ◌++◌, Bool, true, false, length, OnOk, IfSome, IfNone};
 ghost use Rattle.std.specs.Bool.{OnTrue};
-ghost use Rattle.dd_bits.specs.Runs.{row_rect, row_runs, cell_at, HasNone, IsRun};
+ghost use Rattle.dd_bits.specs.CanonicalList.{rect_from, row_runs, cell_at, HasNone, IsRun};
 
 use dd_geom::{MAX_SIDE, Rect};
 use std::alloc::AllocError;
@@ -15,18 +15,19 @@ struct Run {
 }
 
 impl Run {
-    /// The run as a rectangle of one row.
-    fn in_row(self, y: u32) -> Rect
+    /// The run as a rectangle of the rows from `top` to `bottom - 1`.
+    fn in_rows(self, top: u32, bottom: u32) -> Rect
         requires right { self.right ≤ MAX_SIDE }
         requires left { self.left ≤ MAX_SIDE }
-        requires row { y < MAX_SIDE }
-        ensures { result ≡ row_rect y self.left self.right }
+        requires top { top < MAX_SIDE }
+        requires bottom { bottom ≤ MAX_SIDE }
+        ensures { result ≡ rect_from self.left top self.right bottom }
     {
         Rect {
             left: self.left as i32,
-            top: y as i32,
+            top: top as i32,
             right: self.right as i32,
-            bottom: y as i32 + 1,
+            bottom: bottom as i32,
         }
     }
 }
@@ -77,19 +78,21 @@ fn is_blank(row: &[bool]) -> bool
     !some
 }
 
-/// Appends the rectangles of a row's runs, from left to right.
-pub fn push_runs(out: &mut Vec<Rect>, row: &[bool], y: u32) -> Result<(), AllocError>
+/// Appends the rectangles of a row's runs, from left to right, each of the rows from `top` to
+/// `bottom - 1`.
+pub fn push_runs(out: &mut Vec<Rect>, row: &[bool], top: u32, bottom: u32) -> Result<(), AllocError>
     requires width { length row.now ≤ MAX_SIDE }
-    requires height { y < MAX_SIDE }
+    requires top { top < MAX_SIDE }
+    requires bottom { bottom ≤ MAX_SIDE }
     ensures { OnOk result
-        (out.new.items ≡ out.old.items ++ row_runs (cell_at row.now) (length row.now) y) }
+        (out.new.items ≡ out.old.items ++ row_runs (cell_at row.now) (length row.now) top bottom) }
 {
     if is_blank(row) {
         return Ok(());
     }
     let mut from = 0;
     while let Some(run) = next_run(row, from) {
-        out.push(run.in_row(y))?;
+        out.push(run.in_rows(top, bottom))?;
         from = run.right;
     }
     Ok(())

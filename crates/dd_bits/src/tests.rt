@@ -2,7 +2,7 @@
 
 ghost use Rattle.std.specs.Prelude.{◌≡◌, IfOk};
 
-use crate::{Area, Plane, runs_cover, runs_inside};
+use crate::{Area, Plane, list_covers, list_has, list_inside, list_sorted, list_tells};
 use dd_geom::{Move, Point, Rect, move_inside, rect_inside};
 use std::alloc::{AllocError, Global};
 use std::process::Abort;
@@ -42,7 +42,7 @@ struct Case {
     list: &'static [Rect],
 }
 
-static CASES: [Case; 11] = [
+static CASES: [Case; 15] = [
     Case {
         name: "nothing",
         added: &[],
@@ -55,7 +55,7 @@ static CASES: [Case; 11] = [
         added: &[rect!(0, 0, 2, 2)],
         moved: &[],
         points: [b"##....", b"##....", b"......", b"......"],
-        list: &[rect!(0, 0, 2, 1), rect!(0, 1, 2, 2)],
+        list: &[rect!(0, 0, 2, 2)],
     },
     Case {
         name: "two runs of one row, the right one added first",
@@ -76,12 +76,7 @@ static CASES: [Case; 11] = [
         added: &[rect!(2, 0, 3, 4), rect!(0, 1, 6, 2)],
         moved: &[],
         points: [b"..#...", b"######", b"..#...", b"..#..."],
-        list: &[
-            rect!(2, 0, 3, 1),
-            rect!(0, 1, 6, 2),
-            rect!(2, 2, 3, 3),
-            rect!(2, 3, 3, 4),
-        ],
+        list: &[rect!(2, 0, 3, 1), rect!(0, 1, 6, 2), rect!(2, 2, 3, 4)],
     },
     Case {
         name: "the last point, and the whole first row",
@@ -89,6 +84,39 @@ static CASES: [Case; 11] = [
         moved: &[],
         points: [b"######", b"......", b"......", b".....#"],
         list: &[rect!(0, 0, 6, 1), rect!(5, 3, 6, 4)],
+    },
+    Case {
+        name: "the whole surface",
+        added: &[rect!(0, 0, 6, 2), rect!(0, 2, 6, 4)],
+        moved: &[],
+        points: [b"######", b"######", b"######", b"######"],
+        list: &[rect!(0, 0, 6, 4)],
+    },
+    Case {
+        name: "a corner, cut where its rows differ",
+        added: &[rect!(0, 0, 1, 2), rect!(0, 0, 3, 1)],
+        moved: &[],
+        points: [b"###...", b"#.....", b"......", b"......"],
+        list: &[rect!(0, 0, 3, 1), rect!(0, 1, 1, 2)],
+    },
+    Case {
+        name: "equal rows apart from each other",
+        added: &[rect!(1, 0, 3, 1), rect!(1, 2, 3, 4)],
+        moved: &[],
+        points: [b".##...", b"......", b".##...", b".##..."],
+        list: &[rect!(1, 0, 3, 1), rect!(1, 2, 3, 4)],
+    },
+    Case {
+        name: "three columns, the last one longer",
+        added: &[rect!(4, 0, 5, 3), rect!(0, 0, 1, 2), rect!(2, 0, 3, 2)],
+        moved: &[],
+        points: [b"#.#.#.", b"#.#.#.", b"....#.", b"......"],
+        list: &[
+            rect!(0, 0, 1, 2),
+            rect!(2, 0, 3, 2),
+            rect!(4, 0, 5, 2),
+            rect!(4, 2, 5, 3),
+        ],
     },
     Case {
         name: "carried one column right, over itself",
@@ -109,14 +137,14 @@ static CASES: [Case; 11] = [
         added: &[rect!(0, 0, 1, 1), rect!(2, 1, 3, 2)],
         moved: &[scroll!(0, 0, rect!(0, 1, 3, 4))],
         points: [b"#.....", b"#.....", b"..#...", b"......"],
-        list: &[rect!(0, 0, 1, 1), rect!(0, 1, 1, 2), rect!(2, 2, 3, 3)],
+        list: &[rect!(0, 0, 1, 2), rect!(2, 2, 3, 3)],
     },
     Case {
         name: "carried one row up, over itself",
         added: &[rect!(0, 1, 1, 2), rect!(2, 3, 3, 4)],
         moved: &[scroll!(0, 1, rect!(0, 0, 3, 3))],
         points: [b"#.....", b"......", b"..#...", b"..#..."],
-        list: &[rect!(0, 0, 1, 1), rect!(2, 2, 3, 3), rect!(2, 3, 3, 4)],
+        list: &[rect!(0, 0, 1, 1), rect!(2, 2, 3, 4)],
     },
     Case {
         name: "nothing is left under a destination whose source is empty",
@@ -175,6 +203,9 @@ fn planes_answer_the_cases(rt: HostRuntime) -> Result<(), Fail> {
 
 #[test]
 fn laws_can_be_called() {
-    runs_cover();
-    runs_inside();
+    list_covers();
+    list_inside();
+    list_has();
+    list_sorted();
+    list_tells();
 }

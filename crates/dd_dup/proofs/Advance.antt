@@ -12,14 +12,14 @@ use Rattle.dd_geom.proofs.GridLemmas.{length-cells}
 use Rattle.dd_grid.specs.Cell.{Cell, seen_cell}
 use Rattle.dd_grid.specs.Drawing.{cell_at, moved, seen}
 use Rattle.dd_bits.specs.Area.{is_in}
-use Rattle.dd_bits.specs.Runs.{runs}
-use Rattle.dd_bits.proofs.Cover.{count_by-runs, All-runs}
+use Rattle.dd_bits.specs.CanonicalList.{canonical_list}
+use Rattle.dd_bits.proofs.Cover.{count_by-canonical_list, All-canonical_list}
 use Rattle.dd_ops.specs.declared.operations.Op.{Op}
-use Rattle.dd_acc.specs.Effects.{Effect, over, shifted, all_effects, moves_in, moves, dirt, presents_fit, any_reaches}
+use Rattle.dd_acc.specs.Effects.{Effect, over, shifted, all_effects, moves_in, moves, dirt, is_coalesced, presents_fit, any_reaches}
 use Rattle.dd_acc.specs.Rebuild.{any_has, all_moved, rebuild, HasDrawn}
 use Rattle.dd_acc.proofs.Origins.{effect_fits}
 use Rattle.dd_acc.proofs.Counting.{each-fit}
-use Rattle.dd_acc.proofs.Honest.{is_in-dirt, width-dirt, height-dirt, honest}
+use Rattle.dd_acc.proofs.Honest.{drawn-dirt, width-dirt, height-dirt, honest}
 use Rattle.dd_acc.proofs.Rebuilding.{rebuilds, width-presents, height-presents, width-moved, height-moved}
 use Rattle.dd_log.specs.declared.events.Entry.{Entry}
 use Rattle.dd_log.specs.History.{entries_fit}
@@ -42,16 +42,16 @@ any_from_count p [] false e = refl
 any_from_count p (x ∷ xs) b e =
     any_step (p x) b (list_any p xs) (count_by p xs) (any_from_count p xs) (sym (sum_by-cons (λ y. cond (p y) 1 0) x xs) ∙ e)
 
-any_has-runs : (g : Grid Bool) (x y : ℕ) → any_has (runs g) x y ≡ is_in g x y
-any_has-runs g x y = any_from_count (λ r. has r x y) (runs g) (is_in g x y) (count_by-runs g x y)
+any_has-list : (g : Grid Bool) (x y : ℕ) → any_has (canonical_list g) x y ≡ is_in g x y
+any_has-list g x y = any_from_count (λ r. has r x y) (canonical_list g) (is_in g x y) (count_by-canonical_list g x y)
 
 -- each dirty rectangle lies inside
 pub All-dirt_of : (w h : ℕ) (es : List Entry) → All (λ r. IsTrue (is_inside r w h)) (dirt_of w h es)
 unfolding dirt_of
 All-dirt_of w h es =
     let g : Grid Bool = dirt w h (presents es) in
-    subst (λ (n : ℕ). All (λ r. IsTrue (is_inside r n h)) (runs g)) (width-dirt w h (presents es))
-    (subst (λ (n : ℕ). All (λ r. IsTrue (is_inside r g.width n)) (runs g)) (height-dirt w h (presents es)) (All-runs g))
+    subst (λ (n : ℕ). All (λ r. IsTrue (is_inside r n h)) (canonical_list g)) (width-dirt w h (presents es))
+    (subst (λ (n : ℕ). All (λ r. IsTrue (is_inside r g.width n)) (canonical_list g)) (height-dirt w h (presents es)) (All-canonical_list g))
 
 -- each move lies inside
 All-moves_in : (w h : ℕ) (es : List Effect) → list_all (effect_fits w h) es ≡ true → All (λ m. IsTrue (is_move_inside m w h)) (moves_in es)
@@ -79,8 +79,8 @@ pub height-shown : (p : Grid Cell) (es : List Entry) → (shown p es).height ≡
 height-shown p es = ap (λ (q : Grid Cell). q.height) (shown-presents es p) ∙ height-presents (presents es) p
 
 -- the rectangles have each point that was drawn afresh
-has_drawn : (w h : ℕ) (ps : List (List Op)) → presents_fit w h ps ≡ true → HasDrawn w h ps (runs (dirt w h ps))
-has_drawn w h ps fit x y across down t = any_has-runs (dirt w h ps) x y ∙ (is_in-dirt w h ps x y fit across down ∙ t)
+has_drawn : (w h : ℕ) (ps : List (List Op)) → presents_fit w h ps ≡ true → HasDrawn w h ps (canonical_list (dirt w h ps))
+has_drawn w h ps fit x y across down t = any_has-list (dirt w h ps) x y ∙ drawn-dirt w h ps x y fit across down t
 
 -- the moves drawn, and the dirty points copied from the newer surface
 pub rebuild-news :
@@ -89,7 +89,7 @@ pub rebuild-news :
 unfolding dirt_of
 rebuild-news p es fit =
     let ps = presents es in
-    let rects = runs (dirt p.width p.height ps) in
+    let rects = canonical_list (dirt p.width p.height ps) in
     let fits = presents-fit p.width p.height es fit in
     subst (λ (q : Grid Cell). rebuild (seen p) (moves ps) rects (seen q) ≡ seen q) (sym (shown-presents es p))
     (rebuilds p ps rects fits (has_drawn p.width p.height ps fits))
@@ -124,8 +124,8 @@ rebuild-advanced p s t ms rects es fit s_is t_is ms_are rects_are =
 
 -- a point of a dirty rectangle is where an operation drew
 pub reached-news :
-    (w h : ℕ) (es : List Entry) (x y : ℕ) → entries_fit w h es ≡ true → any_has (dirt_of w h es) x y ≡ true
-    → any_reaches (presents es) x y ≡ true
+    (w h : ℕ) (es : List Entry) (x y : ℕ) → is_coalesced w h (presents es) ≡ false → entries_fit w h es ≡ true
+    → any_has (dirt_of w h es) x y ≡ true → any_reaches (presents es) x y ≡ true
 unfolding dirt_of
-reached-news w h es x y fit t =
-    (honest w h (presents es) (presents-fit w h es fit)).reached x y (sym (any_has-runs (dirt w h (presents es)) x y) ∙ t)
+reached-news w h es x y exact fit t =
+    (honest w h (presents es) (presents-fit w h es fit)).reached exact x y (sym (any_has-list (dirt w h (presents es)) x y) ∙ t)

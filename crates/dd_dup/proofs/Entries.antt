@@ -10,7 +10,7 @@ use Rattle.dd_geom.specs.Grid.{Grid}
 use Rattle.dd_grid.specs.Cell.{Cell}
 use Rattle.dd_ops.specs.declared.operations.Op.{Op}
 use Rattle.dd_ops.specs.Operations.{all_fit, drawn}
-use Rattle.dd_acc.specs.Effects.{dirt, moves, presents_fit}
+use Rattle.dd_acc.specs.Effects.{dirt, is_coalesced, moves, presents_fit}
 use Rattle.dd_acc.specs.Interval.{Interval, nothing, with_present}
 use Rattle.dd_acc.proofs.Counting.{composes, list_all-append}
 use Rattle.dd_acc.proofs.Honest.{width-dirt, height-dirt}
@@ -85,7 +85,7 @@ with_entries-presents (e ∷ es) i = with_entries-presents es (with_event i e.ev
 
 pub accumulated_is :
     (w h : ℕ) (es : List Entry)
-    → accumulated w h es ≡ record { area = dirt w h (presents es); moves = moves (presents es); frames = length (presents es) }
+    → accumulated w h es ≡ record { area = dirt w h (presents es); moves = moves (presents es); coalesced = is_coalesced w h (presents es); frames = length (presents es) }
 unfolding accumulated
 accumulated_is w h es = with_entries-presents es (nothing w h) ∙ composes w h (presents es)
 

@@ -2,7 +2,6 @@
 use Rattle.std.proofs.Common.{◌≡◌, ℕ, zero, suc, ◌*◌, ◌<◌, ◌≤◌, Bool, true, false, List, [], ◌∷◌, length, take, drop, Option, Some, None, refl, sym, ap, ◌∙◌, subst, arith, if◌then◌else◌}
 use Rattle.std.specs.Prelude.{slice_get}
 use Rattle.std.proofs.lemmas.List.Sums.{fold-append}
-use Rattle.std.proofs.Math.Nat.{mul_comm}
 use Rattle.std.proofs.lemmas.List.{take-append-drop, take_all, take-take}
 use Rattle.std.specs.Prelude.{Ok, Err, is_some, ◌==◌}
 use Rattle.dd_geom.proofs.GridLemmas.{grid_from_agree, value_at-grid}
@@ -15,17 +14,12 @@ use Rattle.dd_log.specs.declared.answers.DupRefusal.{DupRefusal}
 use Rattle.dd_log.specs.declared.answers.DupRefusal.TheVariants.{InvalidCall, WaitTimeout}
 use Rattle.dd_geom.specs.declared.rect.Rect.{Rect}
 use Rattle.dd_geom.specs.declared.rect.Move.{Move}
-use Rattle.dd_geom.specs.declared.rect.TheConstants.{MAX_PIXELS}
 use Rattle.dd_geom.specs.Rect.{IsSize}
 use Rattle.dd_geom.specs.Grid.{Grid}
 use Rattle.dd_grid.specs.Cell.{Cell}
 use Rattle.dd_grid.specs.Drawing.{black, seen, any_hidden}
-use Rattle.dd_acc.specs.declared.interval.TheConstants.{MAX_MOVES}
-use Rattle.dd_acc.specs.Effects.{dirt}
-use Rattle.dd_acc.proofs.Counting.{few_moves}
-use Rattle.dd_acc.proofs.Honest.{width-dirt, height-dirt}
-use Rattle.dd_bits.specs.Runs.{runs}
-use Rattle.dd_bits.proofs.Few.{length-runs}
+use Rattle.dd_acc.specs.Effects.{dirt, is_coalesced}
+use Rattle.dd_bits.specs.CanonicalList.{canonical_list}
 use Rattle.dd_acc.specs.Interval.{Interval}
 use Rattle.dd_log.specs.declared.events.Entry.{Entry}
 use Rattle.dd_log.specs.History.{History, Begins, first_entries, mode_of, entries_fit}
@@ -41,39 +35,34 @@ use Rattle.dd_dup.specs.Stands.{Stands, opens_at, is_opening}
 use Rattle.dd_dup.proofs.Entries.{accumulated_is}
 use Rattle.dd_dup.proofs.Advance.{width-shown, height-shown, rebuild-news, reached-news}
 
-abbrev pub made : ℕ → ℕ → List Move → List Rect → News
-made count last moves dirt = record { accumulated = count; last_present = last; moves = moves; dirt = dirt }
+abbrev pub made : ℕ → ℕ → Bool → List Move → List Rect → News
+made count last coalesced moves dirt =
+    record { accumulated = count; last_present = last; coalesced = coalesced; moves = moves; dirt = dirt }
 
 -- the news that are made of their parts
 pub news_made :
-    (w h place count last : ℕ) (ms : List Move) (dirt : List Rect) (es : List Entry) (acc : Interval) → acc ≡ accumulated w h es
-    → count ≡ acc.frames → last ≡ last_present 0 place es → ms ≡ acc.moves → dirt ≡ runs acc.area
-    → made count last ms dirt ≡ news_of w h place es
+    (w h place count last : ℕ) (coalesced : Bool) (ms : List Move) (dirt : List Rect) (es : List Entry) (acc : Interval)
+    → acc ≡ accumulated w h es → count ≡ acc.frames → last ≡ last_present 0 place es → coalesced ≡ acc.coalesced
+    → ms ≡ acc.moves → dirt ≡ canonical_list acc.area → made count last coalesced ms dirt ≡ news_of w h place es
 unfolding news_of dirt_of
-news_made w h place count last ms dirt es acc acc_is count_is last_is moves_are dirt_is =
+news_made w h place count last coalesced ms dirt es acc acc_is count_is last_is coalesced_is moves_are dirt_is =
     let is = acc_is ∙ accumulated_is w h es in
-    let c : count ≡ length (presents es) = count_is ∙ ap (λ (i : Interval). i.frames) is in
+    let n : ℕ = length (presents es) in
+    let l : ℕ = last_present 0 place es in
+    let b : Bool = is_coalesced w h (presents es) in
+    let c : count ≡ n = count_is ∙ ap (λ (i : Interval). i.frames) is in
+    let r : coalesced ≡ b = coalesced_is ∙ ap (λ (i : Interval). i.coalesced) is in
     let m : ms ≡ moves_of es = moves_are ∙ ap (λ (i : Interval). i.moves) is in
-    let d : dirt ≡ dirt_of w h es = dirt_is ∙ ap (λ (i : Interval). runs i.area) is in
-    ap (λ n. made n last ms dirt) c
-    ∙ (ap (λ n. made (length (presents es)) n ms dirt) last_is
-    ∙ (ap (λ ns. made (length (presents es)) (last_present 0 place es) ns dirt) m
-    ∙ ap (made (length (presents es)) (last_present 0 place es) (moves_of es)) d))
+    let d : dirt ≡ dirt_of w h es = dirt_is ∙ ap (λ (i : Interval). canonical_list i.area) is in
+    ap (λ k. made k last coalesced ms dirt) c
+    ∙ (ap (λ k. made n k coalesced ms dirt) last_is
+    ∙ (ap (λ k. made n l k ms dirt) r
+    ∙ (ap (λ ns. made n l b ns dirt) m
+    ∙ ap (made n l b (moves_of es)) d)))
 
--- the lists of a frame are short enough for their bytes to be counted
-pub few_moves_of : (w h place : ℕ) (es : List Entry) → length (news_of w h place es).moves ≤ MAX_MOVES
+pub news-coalesced : (w h place : ℕ) (es : List Entry) → (news_of w h place es).coalesced ≡ is_coalesced w h (presents es)
 unfolding news_of
-few_moves_of w h place es = few_moves (presents es)
-
-pub few_dirt_of : (w h place : ℕ) (es : List Entry) → IsSize w h → length (news_of w h place es).dirt ≤ MAX_PIXELS
-unfolding news_of dirt_of
-few_dirt_of w h place es size =
-    let g : Grid Bool = dirt w h (presents es) in
-    let few : length (runs g) ≤ g.height * g.width = length-runs g in
-    let product : g.height * g.width ≡ h * w =
-    ap (λ n. n * g.width) (height-dirt w h (presents es)) ∙ ap (λ n. h * n) (width-dirt w h (presents es)) in
-    let pixels : w * h ≤ MAX_PIXELS = size.pixels in
-    omega (arith, few, product, pixels, mul_comm w h)
+news-coalesced w h place es = refl
 
 pub news-moves : (w h place : ℕ) (es : List Entry) → (news_of w h place es).moves ≡ moves_of es
 unfolding news_of
@@ -169,31 +158,6 @@ stands_held d h f stands = record {
   surface = ap seen (picture_all h);
 }
 
--- a reply that gives something, and what it gives
-pub given : {A : Type 0} (m : Memory) (h : History) (x y : A) → granted m h x ≡ Ok y → x ≡ y
-given {A} m h x y e = from (is_some m.held) (length (presents (news h m.mark)) == 0) e where
-  from : (held none : Bool) → (if held then Err InvalidCall else (if none then Err WaitTimeout else Ok x)) ≡ Ok y → x ≡ y
-  from true none e = cc
-  from false true e = cc
-  from false false e = cc
-
--- where a reply gives one thing it gives any other that is asked for
-pub given_too : {A B : Type 0} (m : Memory) (h : History) (x y : A) (z : B) → granted m h x ≡ Ok y → granted m h z ≡ Ok z
-given_too {A} {B} m h x y z e = from (is_some m.held) (length (presents (news h m.mark)) == 0) e where
-  from : (held none : Bool) → (if held then Err InvalidCall else (if none then Err WaitTimeout else Ok x)) ≡ Ok y
-      → (if held then Err InvalidCall else (if none then Err WaitTimeout else Ok z)) ≡ Ok z
-  from true none e = cc
-  from false true e = cc
-  from false false e = refl
-
-pub refused_too : {A B : Type 0} (m : Memory) (h : History) (x : A) (z : B) (cause : DupRefusal) → granted m h x ≡ Err cause → granted m h z ≡ Err cause
-refused_too {A} {B} m h x z cause e = from (is_some m.held) (length (presents (news h m.mark)) == 0) e where
-  from : (held none : Bool) → (if held then Err InvalidCall else (if none then Err WaitTimeout else Ok x)) ≡ Err cause
-      → (if held then Err InvalidCall else (if none then Err WaitTimeout else Ok z)) ≡ Err cause
-  from true none e = cc
-  from false true e = cc
-  from false false e = cc
-
 -- the frame that is made of what is new
 pub frame_made : (h : History) (mark : ℕ) (n : News) (p : Grid Cell) (protected : Bool) → n ≡ news_since h mark → p ≡ picture h → protected ≡ any_hidden p
     → frame_from n protected ≡ frame h mark
@@ -214,10 +178,12 @@ same_parts opened opened' mark mark' held held' s s' p p' mode mode' a b f c d e
 
 -- the frame's dirt is where the entries of its interval drew
 pub reached : FramesAreReached
-reached h mark t x y e =
-    reached-news (mode_of h).width (mode_of h).height (news h mark) x y
-    (entries_fit-drop (mode_of h).width (mode_of h).height h.entries mark (legal-fit h t))
-    (ap (λ rs. any_has rs x y) (sym (news-dirt (mode_of h).width (mode_of h).height mark (news h mark))) ∙ e)
+reached h mark t exact x y e =
+    let w = (mode_of h).width in
+    let k = (mode_of h).height in
+    let es = news h mark in
+    reached-news w k es x y (sym (news-coalesced w k mark es) ∙ exact)
+    (entries_fit-drop w k h.entries mark (legal-fit h t)) (ap (λ rs. any_has rs x y) (sym (news-dirt w k mark es)) ∙ e)
 
 -- a frame rebuilds what is seen at the end of its interval
 pub rebuilds : FramesRebuild

@@ -1,5 +1,5 @@
 -- A duplicator's value, as contracts see it.
-use Rattle.std.specs.Prelude.{◌≡◌, ℕ, true, List, [], Option, Some, None, option_map}
+use Rattle.std.specs.Prelude.{◌≡◌, ℕ, Bool, true, false, List, [], Option, Some, None, option_map}
 use Rattle.dd_geom.specs.declared.rect.Rect.{Rect}
 use Rattle.dd_geom.specs.declared.rect.Move.{Move}
 use Rattle.dd_acc.specs.Effects.{any_reaches}
@@ -50,10 +50,16 @@ released d = record { memory = release_memory d.memory; surface = d.surface; pic
 abbrev pub Rebuilds : Grid ℕ → Option Frame → Grid ℕ → Type 0
 Rebuilds before held after = rebuild before (held_moves held) (held_dirt held) after ≡ after
 
--- Each point of the frame's dirty rectangles lies in the rectangle of an operation of these entries, or in a scroll's
--- destination.
+-- whether the dirty points of the held frame were rounded
+abbrev pub held_coalesced : Option Frame → Bool
+held_coalesced None = false
+held_coalesced (Some f) = f.info.coalesced
+
+-- Where the dirty points weren't rounded, each point of the frame's dirty rectangles lies in the rectangle of an
+-- operation of these entries, or in a scroll's destination.
 abbrev pub IsReached : Option Frame → List Entry → Type 0
-IsReached held es = (x y : ℕ) → any_has (held_dirt held) x y ≡ true → any_reaches (presents es) x y ≡ true
+IsReached held es =
+    held_coalesced held ≡ false → (x y : ℕ) → any_has (held_dirt held) x y ≡ true → any_reaches (presents es) x y ≡ true
 
 -- For each legal list and each mark: what was seen at the mark, with the frame's moves drawn in order and then its
 -- dirty points copied from what is seen at the end, is what is seen at the end.

@@ -6,8 +6,8 @@ use Rattle.dd_dup.specs.declared.frame.Frame.{Frame}
 use Rattle.dd_dup.specs.declared.frame.News.{News}
 use Rattle.dd_grid.specs.Drawing.{any_hidden}
 use Rattle.dd_geom.specs.Grid.{rows}
-use Rattle.dd_bits.specs.Runs.{runs}
-use Rattle.dd_acc.specs.Effects.{dirt, moves}
+use Rattle.dd_bits.specs.CanonicalList.{canonical_list}
+use Rattle.dd_acc.specs.Effects.{dirt, is_coalesced, moves}
 use Rattle.dd_log.specs.declared.events.Entry.{Entry}
 use Rattle.dd_log.specs.declared.events.Event.{Event}
 use Rattle.dd_log.specs.declared.events.Event.TheVariants.{Opened}
@@ -50,13 +50,14 @@ abbrev pub moves_of : List Entry → List Move
 moves_of es = moves (presents es)
 
 unfoldable pub dirt_of : ℕ → ℕ → List Entry → List Rect
-dirt_of w h es = runs (dirt w h (presents es))
+dirt_of w h es = canonical_list (dirt w h (presents es))
 
 -- what some entries tell, where the first of them stands at a place
 unfoldable pub news_of : ℕ → ℕ → ℕ → List Entry → News
 news_of w h place es = record {
   accumulated = length (presents es);
   last_present = last_present 0 place es;
+  coalesced = is_coalesced w h (presents es);
   moves = moves_of es;
   dirt = dirt_of w h es;
 }
@@ -67,7 +68,7 @@ info_from n protected = record {
   last_present = n.last_present;
   last_mouse = 0;
   accumulated = n.accumulated;
-  coalesced = false;
+  coalesced = n.coalesced;
   protected = protected;
   pointer = record { position = record { x = pos 0; y = pos 0 }; visible = false };
   meta_size = 24 * length n.moves + 16 * length n.dirt;

@@ -2,7 +2,7 @@
 
 ghost use Rattle.std.specs.Prelude.{◌≡◌, ◌+◌, ◌*◌, ◌^◌, ◌≤◌, ◌<◌, Ok, Err, Some, None, IsTrue, IfOk, OnOk, OnErr, length, option_map};
 ghost use Rattle.dd_geom.specs.Rect.{IsSize};
-ghost use Rattle.dd_geom.specs.declared.rect.TheConstants.{MAX_PIXELS};
+ghost use Rattle.dd_coal.specs.declared.coalescing.TheConstants.{MAX_RECTS};
 ghost use Rattle.dd_log.specs.History.{entries_fit};
 ghost use Rattle.dd_log.specs.declared.events.TheConstants.{MAX_CAPACITY};
 ghost use Rattle.dd_acc.specs.declared.interval.TheConstants.{MAX_MOVES};
@@ -50,7 +50,7 @@ impl Model for Dup {
 /// The bytes of the metadata of a frame with these moves and dirty rectangles.
 fn metadata_of(moves: &[Move], dirt: &[Rect]) -> u32
     requires moves { length moves.now ≤ MAX_MOVES }
-    requires dirt { length dirt.now ≤ MAX_PIXELS }
+    requires dirt { length dirt.now ≤ MAX_RECTS }
     ensures { result ≡ 24 * length moves.now + 16 * length dirt.now }
 {
     MOVE_BYTES * moves.len() as u32 + RECT_BYTES * dirt.len() as u32
@@ -58,8 +58,6 @@ fn metadata_of(moves: &[Move], dirt: &[Rect]) -> u32
 
 /// The frame of what is new; `protected` says whether some point is hidden.
 fn frame_of(news: News, protected: bool) -> Frame
-    requires moves { length news.moves ≤ MAX_MOVES }
-    requires dirt { length news.dirt ≤ MAX_PIXELS }
     ensures { result ≡ frame_from news protected }
 {
     let meta_size = metadata_of(news.moves.as_slice(), news.dirt.as_slice());
@@ -67,7 +65,7 @@ fn frame_of(news: News, protected: bool) -> Frame
         last_present: news.last_present,
         last_mouse: 0,
         accumulated: news.accumulated,
-        coalesced: false,
+        coalesced: news.coalesced,
         protected,
         pointer: Pointer {
             position: Point { x: 0, y: 0 },
@@ -95,10 +93,12 @@ fn tell(alloc: Global, mode: Mode, place: u64, entries: &[Entry]) -> Result<News
     let acc = gather(alloc, mode.width, mode.height, entries)?;
     let accumulated = acc.frames();
     let last_present = number_of_last(place, entries);
+    let coalesced = acc.coalesced();
     let (moves, dirt) = acc.into_lists();
     Ok(News {
         accumulated,
         last_present,
+        coalesced,
         moves,
         dirt,
     })

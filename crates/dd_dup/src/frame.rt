@@ -1,6 +1,6 @@
 //! What an acquired frame tells.
 
-use dd_geom::{Moves, Rects};
+use dd_acc::{FrameMoves, FrameRects};
 use dd_log::FrameInfo;
 
 /// What is new since a duplicator's mark.
@@ -10,14 +10,16 @@ pub struct News {
     pub accumulated: u32,
     /// The event number, from 1, of the last of them.
     pub last_present: u64,
-    pub moves: Moves,
-    pub dirt: Rects,
+    /// Whether the dirty points of some present had to be rounded.
+    pub coalesced: bool,
+    pub moves: FrameMoves,
+    pub dirt: FrameRects,
 }
 
 /// An acquired frame.
 #[derive(Debug, Drop)]
 pub struct Frame {
     pub info: FrameInfo,
-    pub moves: Moves,
-    pub dirt: Rects,
+    pub moves: FrameMoves,
+    pub dirt: FrameRects,
 }

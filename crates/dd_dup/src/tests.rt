@@ -1,5 +1,5 @@
-//! A duplicator's calls on a list of an output of 4 by 3 pixels, with answers that are worked out
-//! by hand.
+//! A duplicator's calls on lists of an output of 4 by 3 pixels and of one of 130 by 1, with answers
+//! that are worked out by hand.
 
 ghost use Rattle.std.specs.Prelude.{◌≡◌, ◌<◌, IfOk, OnOk};
 ghost use Rattle.dd_log.specs.History.{last_step};
@@ -17,6 +17,13 @@ use std::test::Fail;
 const MODE: Mode = Mode {
     width: 4,
     height: 3,
+    rotation: Rotation::Identity,
+};
+
+/// One row, which has room for 65 runs of columns.
+const ROW: Mode = Mode {
+    width: 130,
+    height: 1,
     rotation: Rotation::Identity,
 };
 
@@ -66,12 +73,12 @@ fn ops(alloc: Global, drawings: &[Drawing]) -> Result<Ops, Fail> {
     Ok(ops)
 }
 
-/// A list with an opening, and the duplicator that was opened.
-fn opened(alloc: Global) -> Result<(Log, Dup), Fail>
+/// The list of an output of one mode with an opening, and the duplicator that was opened.
+fn opened(alloc: Global, mode: Mode) -> Result<(Log, Dup), Fail>
     ensures stands { IfOk result (λ r. Stands r.1 r.0) }
     ensures none_drawn { IfOk result (λ r. last_step r.0.entries 0 ≡ 0) }
 {
-    let modes = [MODE].to_vec(alloc)?;
+    let modes = [mode].to_vec(alloc)?;
     let spec = Spec {
         modes: Modes::from_vec(modes).ok_or("one mode")?,
         capacity: 9,
@@ -104,12 +111,12 @@ fn present(log: &mut Log, dup: &Dup, step: u32, ops: Ops) -> Result<(), Fail>
 }
 
 /// A list with an opening and a present, and the duplicator.
-fn presented(alloc: Global, drawings: &[Drawing]) -> Result<(Log, Dup), Fail>
+fn presented(alloc: Global, mode: Mode, ops: Ops) -> Result<(Log, Dup), Fail>
     ensures stands { IfOk result (λ r. Stands r.1 r.0) }
     ensures last { IfOk result (λ r. last_step r.0.entries 0 ≡ 1) }
 {
-    let (mut log, dup) = opened(alloc)?;
-    present(&mut log, &dup, 1, ops(alloc, drawings)?)?;
+    let (mut log, dup) = opened(alloc, mode)?;
+    present(&mut log, &dup, 1, ops)?;
     Ok((log, dup))
 }
 
@@ -128,8 +135,9 @@ fn has_rows(rt: &impl Abort, dup: &Dup, want: [[u32; 4]; 3], name: &str) {
 
 #[test]
 fn a_frame_is_acquired_and_released(rt: HostRuntime) -> Result<(), Fail> {
+    let alloc = rt.alloc();
     let fill = rect(1, 1, 3, 2);
-    let (log, mut dup) = presented(rt.alloc(), &[Drawing::Fill(fill)])?;
+    let (log, mut dup) = presented(alloc, MODE, ops(alloc, &[Drawing::Fill(fill)])?)?;
     assert_eq!(rt; dup.desc(), MODE);
     assert_eq!(rt;
         dup.release(&log),
@@ -179,7 +187,8 @@ fn drawn_again(
 #[test]
 fn a_scroll_of_what_was_told_is_a_move(rt: HostRuntime) -> Result<(), Fail> {
     let alloc = rt.alloc();
-    let (mut log, mut dup) = presented(alloc, &[Drawing::Fill(rect(1, 1, 3, 2))])?;
+    let fill = Drawing::Fill(rect(1, 1, 3, 2));
+    let (mut log, mut dup) = presented(alloc, MODE, ops(alloc, &[fill])?)?;
     dup.acquire(&log)?;
     let mv = from_corner(rect(2, 0, 4, 1));
     drawn_again(alloc, &mut log, &mut dup, &[Drawing::Scroll(mv)])?;
@@ -207,9 +216,10 @@ struct Case<'a> {
 
 fn is_told(rt: &impl Abort, alloc: Global, case: Case) -> Result<(), Fail> {
     let Case { name, .. } = case;
-    let (log, mut dup) = presented(alloc, case.drawings)?;
+    let (log, mut dup) = presented(alloc, MODE, ops(alloc, case.drawings)?)?;
     let news = dup.next_news(&log)?;
     let info = dup.hold(&log, news);
+    assert!(rt; !info.coalesced, "{name}: not rounded");
     assert_eq!(rt; info.protected, case.protected, "{name}: protected");
     assert_eq!(rt; info.meta_size, case.meta_size, "{name}: metadata");
     assert_eq!(rt; dup.move_list(), case.moves, "{name}: moves");
@@ -219,12 +229,37 @@ fn is_told(rt: &impl Abort, alloc: Global, case: Case) -> Result<(), Fail> {
 }
 
 #[test]
-fn frames_tell_moves_and_hidden_points(rt: HostRuntime) -> Result<(), Fail> {
+fn frames_tell_moves_dirt_and_hidden_points(rt: HostRuntime) -> Result<(), Fail> {
     let alloc = rt.alloc();
     let corner = rect(0, 0, 1, 1);
     let wide = from_corner(rect(1, 0, 3, 1));
     let narrow = from_corner(rect(1, 0, 2, 1));
     let cases = [
+        Case {
+            name: "rows alike are one band, with a rectangle for each run",
+            drawings: &[
+                Drawing::Fill(rect(2, 0, 4, 2)),
+                Drawing::Fill(rect(0, 0, 1, 1)),
+                Drawing::Fill(rect(0, 1, 1, 2)),
+            ],
+            moves: &[],
+            dirt: &[rect(0, 0, 1, 2), rect(2, 0, 4, 2)],
+            protected: false,
+            meta_size: 32,
+            rows: [[RED, 0, RED, RED], [RED, 0, RED, RED], BLACK],
+        },
+        Case {
+            name: "fills that overlap are a band for each other row",
+            drawings: &[
+                Drawing::Fill(rect(0, 0, 2, 2)),
+                Drawing::Fill(rect(1, 1, 4, 3)),
+            ],
+            moves: &[],
+            dirt: &[rect(0, 0, 2, 1), rect(0, 1, 4, 2), rect(1, 2, 4, 3)],
+            protected: false,
+            meta_size: 48,
+            rows: [[RED, RED, 0, 0], [RED; 4], [0, RED, RED, RED]],
+        },
         Case {
             name: "a scroll over a part of its source",
             drawings: &[Drawing::Fill(rect(0, 0, 2, 1)), Drawing::Scroll(wide)],
@@ -256,6 +291,60 @@ fn frames_tell_moves_and_hidden_points(rt: HostRuntime) -> Result<(), Fail> {
     for case in cases {
         is_told(&rt, alloc, case)?;
     }
+    Ok(())
+}
+
+/// The point at every other column of the row.
+fn tooth(number: u8) -> Rect {
+    let left = 2 * i32::from(number);
+    rect(left, 0, left + 1, 1)
+}
+
+/// Fills of the first 64 teeth, at columns 0 to 126.
+fn teeth(alloc: Global) -> Result<Ops, Fail> {
+    let mut ops = Ops::new(alloc);
+    for number in 0..64 {
+        ops.push(op(alloc, Drawing::Fill(tooth(number)))?)?;
+    }
+    Ok(ops)
+}
+
+#[test]
+fn sixty_four_rectangles_are_told_as_they_are(rt: HostRuntime) -> Result<(), Fail> {
+    let alloc = rt.alloc();
+    let (log, mut dup) = presented(alloc, ROW, teeth(alloc)?)?;
+    let info = dup.acquire(&log)?;
+    assert_eq!(rt;
+        (info.accumulated, info.coalesced, info.meta_size),
+        (1, false, 1024)
+    );
+    assert_eq!(rt; dup.dirt_list().len(), 64);
+    for (number, told) in (0..64).zip(dup.dirt_list()) {
+        assert_eq!(rt; *told, tooth(number), "rectangle {number}");
+    }
+    Ok(())
+}
+
+/// 65 rectangles are too many, and tiles of 2 by 2 points join them. The next interval begins anew.
+#[test]
+fn sixty_five_rectangles_are_rounded(rt: HostRuntime) -> Result<(), Fail> {
+    let alloc = rt.alloc();
+    let (mut log, mut dup) = presented(alloc, ROW, teeth(alloc)?)?;
+    present(&mut log, &dup, 2, ops(alloc, &[Drawing::Fill(tooth(64))])?)?;
+    let info = dup.acquire(&log)?;
+    assert_eq!(rt;
+        (info.accumulated, info.coalesced, info.meta_size),
+        (2, true, 16)
+    );
+    assert_eq!(rt; dup.dirt_list(), [rect(0, 0, 130, 1)].as_slice());
+    dup.release(&log)?;
+    present(&mut log, &dup, 3, ops(alloc, &[Drawing::Fill(tooth(1))])?)?;
+    let info = dup.acquire(&log)?;
+    assert_eq!(rt;
+        (info.accumulated, info.coalesced, info.meta_size),
+        (1, false, 16)
+    );
+    assert_eq!(rt; dup.dirt_list(), [tooth(1)].as_slice());
     Ok(())
 }
 

@@ -11,14 +11,14 @@ pub const MAX_SIDE: u32 = 8192;
 pub const MAX_PIXELS: u32 = 16_777_216;
 
 /// A point: `x` to the right, `y` downward (the API's POINT).
-#[derive(Clone, Copy, Debug, PartialEq, Eq, Hash)]
+#[derive(Clone, Copy, Debug, Default, PartialEq, Eq, Hash)]
 pub struct Point {
     pub x: i32,
     pub y: i32,
 }
 
 /// A rectangle, whose right and bottom sides are exclusive (the API's RECT).
-#[derive(Clone, Copy, Debug, PartialEq, Eq, Hash)]
+#[derive(Clone, Copy, Debug, Default, PartialEq, Eq, Hash)]
 pub struct Rect {
     pub left: i32,
     pub top: i32,
@@ -28,7 +28,7 @@ pub struct Rect {
 
 /// A copy of the rectangle of the same size at `source` to `dest`
 /// (the API's DXGI_OUTDUPL_MOVE_RECT).
-#[derive(Clone, Copy, Debug, PartialEq, Eq, Hash)]
+#[derive(Clone, Copy, Debug, Default, PartialEq, Eq, Hash)]
 pub struct Move {
     pub source: Point,
     pub dest: Rect,

@@ -123,7 +123,7 @@ fn answers_to_the_byte(rt: HostRuntime) -> Result<(), Fail> {
             &[
                 OPENED,
                 r#"{"entry":2}"#,
-                r#"{"dirty":[[0,0,2,1],[0,1,2,2]],"frame":{"accumulated":1,"coalesced":false,"meta":32,"mouse":0,"pointer":[0,0],"present":2,"protected":false,"shape":0,"visible":false},"moves":[]}"#,
+                r#"{"dirty":[[0,0,2,2]],"frame":{"accumulated":1,"coalesced":false,"meta":16,"mouse":0,"pointer":[0,0],"present":2,"protected":false,"shape":0,"visible":false},"moves":[]}"#,
             ],
         ),
         (
@@ -274,7 +274,7 @@ fn moves_to_the_byte(rt: HostRuntime) -> Result<(), Fail> {
                 OPENED,
                 r#"{"entry":2}"#,
                 r#"{"code":"80070057","op":1,"refused":"BadRect"}"#,
-                r#"{"dirty":[[1,0,3,1],[1,1,3,2]],"frame":{"accumulated":1,"coalesced":false,"meta":32,"mouse":0,"pointer":[0,0],"present":2,"protected":false,"shape":0,"visible":false},"moves":[]}"#,
+                r#"{"dirty":[[1,0,3,2]],"frame":{"accumulated":1,"coalesced":false,"meta":16,"mouse":0,"pointer":[0,0],"present":2,"protected":false,"shape":0,"visible":false},"moves":[]}"#,
                 r#"{"surface":["000000000001000002000000","000000000003000004000000","000000000000000000000000"]}"#,
             ],
         ),
@@ -307,6 +307,81 @@ fn moves_to_the_byte(rt: HostRuntime) -> Result<(), Fail> {
         assert_eq!(rt; status, Status::Done, "{name}");
         assert_eq!(rt; sink.bytes(), lines(alloc, want)?.as_bytes(), "{name}");
     }
+    Ok(())
+}
+
+/// A script of a mode of 130 by 1 points: one present of 64 points, every second one, and after an
+/// acquire and a release, or at once, a present of one more.
+fn points_script(alloc: Global, between: &str) -> Result<Vec<u8>, Fail> {
+    let mut text = String::from_str(
+        alloc,
+        r#"{"modes":[[130,1,1]],"capacity":100,"privileged":[],"clients":[1],"steps":[{"client":1,"call":"duplicate"},{"present":["#,
+    )?;
+    for k in 0..64u32 {
+        if k > 0 {
+            text.push_str(",")?;
+        }
+        let fill = format!(in alloc;
+            r#"{{"fill":[{},0,{},1],"colour":"ff0000"}}"#,
+            2 * k,
+            2 * k + 1
+        )?;
+        text.push_str(&fill)?;
+    }
+    text.push_str("]},")?;
+    text.push_str(between)?;
+    text.push_str(
+        r#"{"present":[{"fill":[128,0,129,1],"colour":"ff0000"}]},{"client":1,"call":"acquire"}]}"#,
+    )?;
+    Ok(text.into_bytes())
+}
+
+/// The dirty rectangles of 64 points, every second one.
+fn points_line(alloc: Global) -> Result<String, Fail> {
+    let mut text = String::from_str(alloc, r#"{"dirty":["#)?;
+    for k in 0..64u32 {
+        if k > 0 {
+            text.push_str(",")?;
+        }
+        let rect = format!(in alloc; "[{},0,{},1]", 2 * k, 2 * k + 1)?;
+        text.push_str(&rect)?;
+    }
+    text.push_str(
+        r#"],"frame":{"accumulated":1,"coalesced":false,"meta":1024,"mouse":0,"pointer":[0,0],"present":2,"protected":false,"shape":0,"visible":false},"moves":[]}"#,
+    )?;
+    Ok(text)
+}
+
+#[test]
+fn sixty_four_rectangles_and_one_more(rt: HostRuntime) -> Result<(), Fail> {
+    let alloc = rt.alloc();
+    let bytes = points_script(
+        alloc,
+        r#"{"client":1,"call":"acquire"},{"client":1,"call":"release"},"#,
+    )?;
+    let (status, sink) = replayed(alloc, bytes, 4096, &[], &[])?;
+    let line = points_line(alloc)?;
+    let want = [
+        OPENED,
+        r#"{"entry":2}"#,
+        line.as_str(),
+        r#"{"released":true}"#,
+        r#"{"entry":3}"#,
+        r#"{"dirty":[[128,0,129,1]],"frame":{"accumulated":1,"coalesced":false,"meta":16,"mouse":0,"pointer":[0,0],"present":3,"protected":false,"shape":0,"visible":false},"moves":[]}"#,
+    ];
+    assert_eq!(rt; status, Status::Done);
+    assert_eq!(rt; sink.bytes(), lines(alloc, &want)?.as_bytes());
+
+    let bytes = points_script(alloc, "")?;
+    let (status, sink) = replayed(alloc, bytes, 4096, &[], &[])?;
+    let want = [
+        OPENED,
+        r#"{"entry":2}"#,
+        r#"{"entry":3}"#,
+        r#"{"dirty":[[0,0,130,1]],"frame":{"accumulated":2,"coalesced":true,"meta":16,"mouse":0,"pointer":[0,0],"present":3,"protected":false,"shape":0,"visible":false},"moves":[]}"#,
+    ];
+    assert_eq!(rt; status, Status::Done);
+    assert_eq!(rt; sink.bytes(), lines(alloc, &want)?.as_bytes());
     Ok(())
 }
 

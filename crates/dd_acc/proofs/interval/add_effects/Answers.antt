@@ -5,7 +5,7 @@ use Rattle.dd_acc.proofs.Counting.{fits_at, area_more, moves_more}
 use Rattle.dd_acc.proofs.interval.add_effects.Goals as goal
 
 pub loop-op-init : goal.loop-op-init
-loop-op-init g c = (dirtied-none (g.A.Area.points c.args.area.now) c.requires.whole, sym (append-nil c.args.moves.now.items))
+loop-op-init g c = (dirtied-none (g.A.Area.points c.args.area.now) c.requires.whole, sym (append-nil c.args.moves.now))
 
 pub add_effect-requires : goal.add_effect-requires
 add_effect-requires g c =
@@ -20,10 +20,10 @@ add_effect-requires g c =
 pub loop-op-preserved : goal.loop-op-preserved
 loop-op-preserved g c = (
   c.in_ok-add_effect.ensures.area
-      ∙ area_more (g.A.Area.points c.args.area.now) (g.A.Area.points c.loop-op.area) c.args.moves.now.items c.loop-op.moves.items
+      ∙ area_more (g.A.Area.points c.args.area.now) (g.A.Area.points c.loop-op.area) c.args.moves.now c.loop-op.moves
       c.args.ops.now c.loop-op.op-index c.op-item.result c.loop-op-test.true c.op-item.is c.requires.fit
       c.loop-op.invariant.0 c.loop-op.invariant.1,
   c.in_ok-add_effect.ensures.moves
-      ∙ moves_more c.args.moves.now.items c.loop-op.moves.items c.args.ops.now c.loop-op.op-index c.op-item.result
+      ∙ moves_more c.args.moves.now c.loop-op.moves c.args.ops.now c.loop-op.op-index c.op-item.result
       c.loop-op-test.true c.op-item.is c.loop-op.invariant.1,
 )

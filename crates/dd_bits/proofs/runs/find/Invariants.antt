@@ -1,4 +1,4 @@
-use Rattle.dd_bits.specs.Runs.{cell_at, HasNone}
+use Rattle.dd_bits.specs.CanonicalList.{cell_at, HasNone}
 use Rattle.dd_bits.proofs.runs.find.Given as goal
 
 abbrev pub invariant-loop-x : goal.invariant-loop-x

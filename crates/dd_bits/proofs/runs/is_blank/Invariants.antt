@@ -1,5 +1,5 @@
 use Rattle.std.proofs.Common.{◌≡◌, true, false}
-use Rattle.dd_bits.specs.Runs.{cell_at, HasNone}
+use Rattle.dd_bits.specs.CanonicalList.{cell_at, HasNone}
 use Rattle.dd_bits.proofs.runs.is_blank.Given as goal
 
 abbrev pub invariant-loop-cell : goal.invariant-loop-cell

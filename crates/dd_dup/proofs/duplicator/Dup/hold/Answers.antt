@@ -7,12 +7,9 @@ use Rattle.dd_log.specs.Desk.{picture, view, shown}
 use Rattle.dd_dup.specs.declared.frame.Frame.{Frame}
 use Rattle.dd_dup.specs.declared.frame.News.{News}
 use Rattle.dd_dup.specs.Reply.{moves_of, dirt_of, news, frame}
-use Rattle.dd_geom.specs.Rect.{IsSize}
-use Rattle.dd_geom.specs.declared.rect.TheConstants.{MAX_PIXELS}
-use Rattle.dd_acc.specs.declared.interval.TheConstants.{MAX_MOVES}
 use Rattle.dd_dup.specs.Duplicator.{Duplicator, duplicator, IsReached}
 use Rattle.dd_dup.specs.Stands.{Stands}
-use Rattle.dd_dup.proofs.Frames.{width-picture, height-picture, picture_forward, news-dirt, news-moves, few_moves_of, few_dirt_of, frame_made, reached, same_parts, stands_held}
+use Rattle.dd_dup.proofs.Frames.{width-picture, height-picture, picture_forward, news-dirt, news-moves, frame_made, reached, same_parts, stands_held}
 use Rattle.dd_dup.proofs.duplicator.Dup.hold.Goals as goal
 
 pub advance-requires-clause-fit : goal.advance-requires-clause-fit
@@ -35,7 +32,7 @@ pub advance-requires-clause-moves : goal.advance-requires-clause-moves
 advance-requires-clause-moves c =
     let h = c.args.log.now in
     let mark_is : c.args.self.now.memory.mark ≡ c.self.inside.mark = ap (λ (e : Duplicator). e.memory.mark) (sym c.self.view_is) in
-    c.as_slice.ensures
+    c.as_slice.ensures.value
     ∙ (ap (λ (n : News). n.moves) c.requires.next
     ∙ (news-moves (mode_of h).width (mode_of h).height c.args.self.now.memory.mark (news h c.args.self.now.memory.mark)
     ∙ (ap (λ n. moves_of (drop n h.entries)) mark_is
@@ -49,7 +46,7 @@ advance-requires-clause-dirt c =
     let wide : c.self.inside.picture.width ≡ (mode_of h).width = ap (λ (p : Grid Cell). p.width) stands.picture ∙ width-picture _ in
     let high : c.self.inside.picture.height ≡ (mode_of h).height = ap (λ (p : Grid Cell). p.height) stands.picture ∙ height-picture _ in
     let mark_is : c.args.self.now.memory.mark ≡ c.self.inside.mark = ap (λ (e : Duplicator). e.memory.mark) (sym c.self.view_is) in
-    c.as_slice-2.ensures
+    c.as_slice-2.ensures.value
     ∙ (ap (λ (n : News). n.dirt) c.requires.next
     ∙ (news-dirt (mode_of h).width (mode_of h).height c.args.self.now.memory.mark (news h c.args.self.now.memory.mark)
     ∙ (ap (λ n. dirt_of (mode_of h).width (mode_of h).height (drop n h.entries)) mark_is
@@ -109,27 +106,3 @@ returns-clause-reached c =
     let holds : c.frame_of-frame.result ≡ frame h m =
     of_held (Some c.frame_of-frame.result) c.frame_of-frame.result (frame h m) refl (ap (λ (e : Duplicator). e.memory.held) (becomes c)) in
     subst (λ (f : Frame). IsReached (Some f) (news h m)) (sym holds) (reached h m c.after-entries.ensures.legal)
-
-pub frame_of-frame-requires-clause-moves : goal.frame_of-frame-requires-clause-moves
-frame_of-frame-requires-clause-moves c =
-    let h = c.args.log.now in
-    let m = c.args.self.now.memory.mark in
-    subst (λ (n : News). length n.moves ≤ MAX_MOVES) (sym c.requires.next) (few_moves_of (mode_of h).width (mode_of h).height m (news h m))
-
-pub frame_of-frame-requires-clause-dirt : goal.frame_of-frame-requires-clause-dirt
-frame_of-frame-requires-clause-dirt c =
-    let d : Duplicator = duplicator c.self.inside.opened c.self.inside.mark c.self.inside.held c.self.inside.surface c.self.inside.picture c.self.inside.mode in
-    let h = c.args.log.now in
-    let m = c.args.self.now.memory.mark in
-    let stands : Stands d h = subst (λ (e : Duplicator). Stands e h) (sym c.self.view_is) c.requires.stands in
-    let picture_is : c.advance.new.picture ≡ picture h =
-    c.advance.ensures.picture
-    ∙ (ap (shown c.self.inside.picture) c.after-entries.ensures.value
-    ∙ (ap (λ (p : Grid Cell). shown p (drop c.self.inside.mark h.entries)) stands.picture
-    ∙ picture_forward h c.self.inside.mark)) in
-    let size = c.any_hidden.ensures.picture.size in
-    let wide : c.advance.new.picture.width ≡ (mode_of h).width = ap (λ (p : Grid Cell). p.width) picture_is ∙ width-picture h in
-    let high : c.advance.new.picture.height ≡ (mode_of h).height = ap (λ (p : Grid Cell). p.height) picture_is ∙ height-picture h in
-    let fits : IsSize (mode_of h).width (mode_of h).height =
-    subst (λ (n : ℕ). IsSize n (mode_of h).height) wide (subst (λ (n : ℕ). IsSize c.advance.new.picture.width n) high size) in
-    subst (λ (n : News). length n.dirt ≤ MAX_PIXELS) (sym c.requires.next) (few_dirt_of (mode_of h).width (mode_of h).height m (news h m) fits)

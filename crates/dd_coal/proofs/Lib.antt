@@ -1,0 +1,4 @@
+pub mod Examples
+pub mod Least
+pub mod Marked
+pub mod Short

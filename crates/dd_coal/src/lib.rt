@@ -1,0 +1,10 @@
+//! The bound on the rectangles of a set's list: the least rounding that keeps it.
+#![tactic(auto)]
+
+mod coalescing;
+mod laws;
+#[cfg(test)]
+mod tests;
+
+pub use coalescing::{Coalesced, MAX_POWER, MAX_RECTS, coalesce};
+pub use laws::{least_power, rounding_is_near, rounding_keeps_points};
