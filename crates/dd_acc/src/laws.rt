@@ -21,7 +21,8 @@ pub fn moves_and_dirt_rebuild()
     ensures { Rebuilds }
 {}
 
-/// Each dirty point was drawn, or was a scroll's destination.
+/// Each point that is drawn afresh is dirty. Where no present had to be rounded no other point is, and
+/// each dirty point was drawn, or was a scroll's destination.
 pub fn dirt_is_honest()
     ensures { HonestDirt }
 {}

@@ -184,8 +184,8 @@ impl Dup {
         ensures answer { Answers result self.old.memory self.new.memory log.now }
         ensures err { OnErr result (self.new ≡ self.old) }
         ensures stands { Stands self.new log.now }
-        // The surface is what is seen of the desk, the frame rebuilds it from the one before, and
-        // its dirt is where something was drawn or scrolled to.
+        // The surface is what is seen of the desk, and the frame rebuilds it from the one before.
+        // Its dirt, where it wasn't rounded, is where something was drawn or scrolled to.
         ensures surface { OnOk result (self.new.surface ≡ view log.now) }
         ensures rebuilt { OnOk result (Rebuilds self.old.surface self.new.memory.held self.new.surface) }
         ensures reached { OnOk result (IsReached self.new.memory.held (news log.now self.old.memory.mark)) }

@@ -14,7 +14,8 @@ pub fn frames_rebuild()
     ensures { FramesRebuild }
 {}
 
-/// A frame's dirt is where the operations of its interval drew, or scrolled to.
+/// Where a frame's dirt wasn't rounded, it is where the operations of its interval drew, or scrolled
+/// to.
 pub fn frames_are_reached()
     ensures { FramesAreReached }
 {}
