@@ -1,10 +1,8 @@
 .POSIX:
-.PHONY: demo build test
+.PHONY: demo build test cases docs
 
 RT = rt
 FIRST = examples/first
-MOVES = examples/moves
-TOUR = examples/tour
 
 # Runs the first example. Standard output has the answer lines alone.
 demo:
@@ -17,19 +15,27 @@ demo:
 	fi
 
 # Proves every crate, lowest first, and leaves the program as bin/ddup once its answers to the
-# examples are the right ones.
+# cases of examples/ are the right ones.
 build:
 	$(RT) all check
 	mkdir -p bin
 	cd crates/ddup && $(RT) run -- replay < ../../$(FIRST)/script.json > ../../bin/answers.txt
 	cmp bin/answers.txt $(FIRST)/answers.txt
-	cp crates/ddup/out/ddup bin/ddup
-	bin/ddup replay < $(MOVES)/script.json > bin/answers.txt
-	cmp bin/answers.txt $(MOVES)/answers.txt
-	bin/ddup replay < $(TOUR)/script.json > bin/answers.txt
-	cmp bin/answers.txt $(TOUR)/answers.txt
 	rm bin/answers.txt
+	cp crates/ddup/out/ddup bin/ddup
+	tools/run_cases bin/ddup
 
-# Proves every crate from nothing, tries the wrong bodies, and runs the tests and the program.
+# Proves every crate from nothing, tries the wrong bodies, and runs the tests and the programs.
 test:
 	.ci/run
+
+# Puts the cases of examples/ into the stored run of ddup_cases, by which the gate runs them.
+cases:
+	tools/gather_cases > crates/ddup_cases/stdin
+	tools/gather_cases --wanted > crates/ddup_cases/stdout
+
+# Looks whether the paths, calls, clauses and definitions that the pages cite exist, and whether the
+# stored run of ddup_cases has the cases of examples/.
+docs:
+	tools/check_docs
+	tools/gather_cases | cmp - crates/ddup_cases/stdin
