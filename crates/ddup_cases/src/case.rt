@@ -6,7 +6,7 @@ use dd_prog::plain;
 use std::alloc::{AllocError, Global};
 use std::mem;
 
-/// How many bytes the devices move in one call.
+/// How many bytes the devices move in a call.
 const PIECE: usize = 4096;
 
 /// Whose next line it is.

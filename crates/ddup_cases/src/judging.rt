@@ -30,7 +30,7 @@ impl fmt::Display for Verdict {
 /// The place of the first byte at which two outputs differ; the length of the shorter one where it
 /// is a front of the other.
 fn first_difference(got: &[u8], wanted: &[u8]) -> usize {
-    let alike = got.iter().zip(wanted).take_while(|(a, b)| a == b);
+    let alike = got.iter().zip(wanted).take_while(|(x, y)| x == y);
     alike.count()
 }
 
