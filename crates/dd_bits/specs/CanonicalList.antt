@@ -49,9 +49,9 @@ band_at g y = if starts_band g y then row_runs (λ x. is_in g x y) g.width y (ba
 unfoldable pub canonical_list : Grid Bool → List Rect
 canonical_list g = flat_map (band_at g) (range_with_len 0 g.height)
 
--- the row that a list of cells is; past its end no column is marked
-abbrev pub cell_at : List Bool → ℕ → Bool
-cell_at cells x = slice_index_or cells x false
+-- whether a column of a row, a list of cells, is marked; none past its end is
+abbrev pub is_marked : List Bool → ℕ → Bool
+is_marked cells x = slice_index_or cells x false
 
 -- none of the columns from `from` to `to - 1` is so marked
 abbrev pub HasNone : (ℕ → Bool) → Bool → ℕ → ℕ → Type 0
@@ -88,7 +88,8 @@ pub record IsBand (g : Grid Bool) (top bottom : ℕ) : Type 0 where
 abbrev pub ListHas : Type 0
 ListHas =
     (g : Grid Bool) (left top right bottom : ℕ)
-    → Contains (canonical_list g) (rect_from left top right bottom) ↔ (IsMaximalRun g top left right × IsBand g top bottom)
+    → Contains (canonical_list g) (rect_from left top right bottom) ↔
+    (IsMaximalRun g top left right × IsBand g top bottom)
 
 -- the first rectangle stands before the second: by top, then left
 abbrev pub StandsBefore : Rect → Rect → Type 0
