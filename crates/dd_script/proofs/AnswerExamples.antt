@@ -10,7 +10,7 @@ use Rattle.dd_log.specs.declared.answers.FrameInfo.{FrameInfo}
 use Rattle.dd_log.specs.declared.answers.Answer.TheVariants as answer
 use Rattle.dd_log.specs.declared.answers.LogRefusal.TheVariants as drawing
 use Rattle.dd_log.specs.declared.answers.DupRefusal.TheVariants as call
-use Rattle.dd_script.specs.Answers.{point_tree, rect_tree, move_tree, info_tree, frame_tree, row_digits, surface_tree, refusal_tree, log_refusal_tree, dup_refusal_tree, answer_tree}
+use Rattle.dd_script.specs.Answers.{point_tree, rect_tree, move_tree, info_tree, frame_tree, row_digits, surface_tree, refusal_tree, answer_tree}
 use Rattle.dd_script.specs.Texts.{line, text}
 
 -- the first present, whose rectangle is two points wide and one high
@@ -69,15 +69,15 @@ unfolding line answer_tree digits serde_json_on_literals
 line_of_a_drawing = refl
 
 line_of_a_timeout : line (answer.Refused call.WaitTimeout None) ≡ codes "{\"code\":\"887a0027\",\"refused\":\"WaitTimeout\"}" ++ 10 ∷ []
-unfolding line answer_tree dup_refusal_tree refusal_tree serde_json_on_literals
+unfolding line answer_tree refusal_tree serde_json_on_literals
 line_of_a_timeout = refl
 
 line_with_a_buffer : line (answer.Refused call.InvalidCall (Some (238 ∷ 1 ∷ []))) ≡ codes "{\"buffer\":\"ee01\",\"code\":\"887a0001\",\"refused\":\"InvalidCall\"}" ++ 10 ∷ []
-unfolding line answer_tree dup_refusal_tree refusal_tree encode_with serde_json_on_literals
+unfolding line answer_tree refusal_tree encode_with serde_json_on_literals
 line_with_a_buffer = refl
 
 line_of_a_bad_rectangle : line (answer.NotDrawn (drawing.BadRect 0)) ≡ codes "{\"code\":\"80070057\",\"op\":0,\"refused\":\"BadRect\"}" ++ 10 ∷ []
-unfolding line answer_tree log_refusal_tree refusal_tree digits serde_json_on_literals
+unfolding line answer_tree refusal_tree digits serde_json_on_literals
 line_of_a_bad_rectangle = refl
 
 line_of_a_surface : line (answer.Surface (Some ((0xff8001 ∷ 255 ∷ []) ∷ []))) ≡ codes "{\"surface\":[\"ff80010000ff\"]}" ++ 10 ∷ []

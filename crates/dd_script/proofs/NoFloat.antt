@@ -1,19 +1,17 @@
 -- No answer holds a number with a fraction, so its text is told byte for byte.
-use Rattle.std.proofs.Common.{◌≡◌, ℕ, ℤ, pos, negsuc, false, List, [], ◌∷◌, map, Option, Some, None, refl}
-use Rattle.serde_json.specs.Data.{Data}
+use Rattle.std.proofs.Common.{◌≡◌, ℕ, ℤ, pos, negsuc, false, List, [], ◌∷◌, map, Option, Some, None, option_map, codes, refl, ◌∙◌}
+use Rattle.serde_json.specs.Data.{Data, Members, string}
 use Rattle.serde_json.specs.Find.{is_float, of_integer}
 use Rattle.serde_json.specs.View.{items_of}
-use Rattle.serde_json.specs.Written.{has_float, items_have_float}
+use Rattle.hex.specs.Hex.{encode_lower}
+use Rattle.serde_json.specs.Written.{has_float, items_have_float, members_have_float}
 use Rattle.dd_geom.specs.declared.rect.Point.{Point}
 use Rattle.dd_geom.specs.declared.rect.Rect.{Rect}
 use Rattle.dd_geom.specs.declared.rect.Move.{Move}
 use Rattle.dd_log.specs.declared.answers.FrameInfo.{FrameInfo}
 use Rattle.dd_log.specs.declared.answers.Answer.{Answer}
 use Rattle.dd_log.specs.declared.answers.Answer.TheVariants as answer
-use Rattle.dd_log.specs.declared.answers.LogRefusal.TheVariants as drawing
-use Rattle.dd_log.specs.declared.answers.OpenRefusal.TheVariants as opening
-use Rattle.dd_log.specs.declared.answers.DupRefusal.TheVariants as call
-use Rattle.dd_script.specs.Answers.{point_tree, rect_tree, move_tree, info_tree, frame_tree, row_tree, surface_tree, refusal_tree, log_refusal_tree, open_refusal_tree, dup_refusal_tree, answer_tree}
+use Rattle.dd_script.specs.Answers.{count, part, Refusal, point_tree, rect_tree, move_tree, info_tree, frame_tree, row_tree, surface_tree, refusal_tree, answer_tree}
 
 coordinate_has_none : (z : ℤ) → is_float (of_integer z) ≡ false
 coordinate_has_none (pos n) = refl
@@ -48,30 +46,27 @@ unfolding surface_tree
 surface_has_none None = refl
 surface_has_none (Some rows) = rw (list_has_none row_tree (λ _. refl) rows)
 
-refusal_has_none : (buffer code : Option (List ℕ)) (op : Option ℕ) (name : List ℕ) → has_float (refusal_tree buffer code op name) ≡ false
+-- a part more, which has none
+part_has_none : {T : Type 0} (key : List ℕ) (f : T → Data) → ((x : T) → has_float (f x) ≡ false) → (o : Option T) (ms : Members)
+    → members_have_float (part key (option_map f o) ms) ≡ members_have_float ms
+part_has_none key f h None ms = refl
+part_has_none key f h (Some x) ms = rw (h x) refl
+
+refusal_has_none : (r : Refusal) → has_float (refusal_tree r) ≡ false
 unfolding refusal_tree
-refusal_has_none None None None name = refl
-refusal_has_none None None (Some op) name = refl
-refusal_has_none None (Some code) None name = refl
-refusal_has_none None (Some code) (Some op) name = refl
-refusal_has_none (Some bytes) None None name = refl
-refusal_has_none (Some bytes) None (Some op) name = refl
-refusal_has_none (Some bytes) (Some code) None name = refl
-refusal_has_none (Some bytes) (Some code) (Some op) name = refl
+refusal_has_none r =
+    part_has_none (codes "buffer") (λ bytes. string (encode_lower bytes)) (λ _. refl) r.buffer _
+    ∙ part_has_none (codes "code") string (λ _. refl) r.code _
+    ∙ part_has_none (codes "op") count (λ _. refl) r.op _
 
 pub answer_has_no_float : (a : Answer) → has_float (answer_tree a) ≡ false
-unfolding answer_tree log_refusal_tree open_refusal_tree dup_refusal_tree
+unfolding answer_tree
 answer_has_no_float (answer.Entered entry) = refl
-answer_has_no_float (answer.NotDrawn drawing.Full) = refusal_has_none _ _ _ _
-answer_has_no_float (answer.NotDrawn (drawing.BadRect op)) = refusal_has_none _ _ _ _
+answer_has_no_float (answer.NotDrawn refusal) = refusal_has_none _
 answer_has_no_float (answer.Opened entry slot) = refl
-answer_has_no_float (answer.NotOpened opening.AlreadyDuplicating) = refusal_has_none _ _ _ _
-answer_has_no_float (answer.NotOpened opening.NotAvailable) = refusal_has_none _ _ _ _
-answer_has_no_float (answer.NotOpened opening.Full) = refusal_has_none _ _ _ _
+answer_has_no_float (answer.NotOpened refusal) = refusal_has_none _
 answer_has_no_float (answer.Frame info moves dirt) = frame_has_none info moves dirt
 answer_has_no_float answer.Released = refl
 answer_has_no_float (answer.Surface rows) = surface_has_none rows
-answer_has_no_float (answer.Refused call.InvalidCall buffer) = refusal_has_none _ _ _ _
-answer_has_no_float (answer.Refused call.WaitTimeout buffer) = refusal_has_none _ _ _ _
-answer_has_no_float (answer.Refused call.OutOfMemory buffer) = refusal_has_none _ _ _ _
-answer_has_no_float answer.NoDuplicator = refusal_has_none _ _ _ _
+answer_has_no_float (answer.Refused refusal buffer) = refusal_has_none _
+answer_has_no_float answer.NoDuplicator = refusal_has_none _

@@ -8,8 +8,10 @@ use Rattle.serde_json.specs.Data.{Data}
 use Rattle.dd_station.specs.declared.steps.Step.{Step}
 use Rattle.dd_station.specs.declared.steps.Step.TheVariants.{Draw, Call}
 use Rattle.dd_station.specs.declared.steps.Script.{Script}
-use Rattle.dd_script.specs.declared.reading.limits.TheConstants.{MAX_CAPACITY, MAX_CLIENTS, MAX_PRIVILEGED}
-use Rattle.dd_script.specs.Script.{form_of, script_of, has_client, keeps_limits, opens_first, has_one_duplicator, IsRunnable}
+use Rattle.dd_log.specs.declared.events.TheConstants.{MAX_CAPACITY}
+use Rattle.dd_station.specs.declared.steps.TheConstants.{MAX_CLIENTS}
+use Rattle.dd_script.specs.declared.reading.limits.TheConstants.{MAX_PRIVILEGED}
+use Rattle.dd_script.specs.Script.{parts_of, script_of, has_client, keeps_limits, opens_first, has_one_duplicator, IsRunnable}
 use Rattle.dd_station.specs.Run.{IsOfClient}
 
 of_client : (n : ℕ) (s : Step) → has_client n s ≡ true → IsOfClient n s
@@ -49,7 +51,7 @@ runs s h room =
 pub script_runs : (d : Data) (s : Script) → script_of d ≡ Some s → IsRunnable s
 unfolding script_of
 script_runs d s e =
-    option_and_then_some (λ (r : Script). cond (keeps_limits r && has_one_duplicator r) (Some r) None) (form_of d) s e (λ r read kept.
+    option_and_then_some (λ (r : Script). cond (keeps_limits r && has_one_duplicator r) (Some r) None) (parts_of d) s e (λ r read kept.
     let c = cond_some (keeps_limits r && has_one_duplicator r) r s kept in
     let p = and_parts (keeps_limits r) (has_one_duplicator r) c.0 in
     subst IsRunnable c.1 (runs r p.0 (has_room r p.1)))

@@ -116,42 +116,54 @@ abbrev pub put_part : List ℕ → Option Data → Members → Members
 put_part key None ms = ms
 put_part key (Some d) ms = put key d ms
 
--- a refusal's name, and of the other parts those that it has
-unfoldable pub refusal_tree : Option (List ℕ) → Option (List ℕ) → Option ℕ → List ℕ → Data
-refusal_tree buffer code op name =
+-- what a refusal tells: its name, and of the other parts those that it has
+pub record Refusal : Type 0 where
+  pub name : List ℕ
+  pub code : Option (List ℕ)
+  pub op : Option ℕ
+  pub buffer : Option (List ℕ)
+
+-- a refusal that has its name alone
+abbrev pub named : List ℕ → Refusal
+named name = record { name = name; code = None; op = None; buffer = None }
+
+unfoldable pub refusal_tree : Refusal → Data
+refusal_tree r =
     object
-    (part (codes "buffer") (option_map (λ bytes. string (encode_lower bytes)) buffer)
-    (part (codes "code") (option_map string code)
-    (part (codes "op") (option_map count op)
-    (member (codes "refused") (string name)
+    (part (codes "buffer") (option_map (λ bytes. string (encode_lower bytes)) r.buffer)
+    (part (codes "code") (option_map string r.code)
+    (part (codes "op") (option_map count r.op)
+    (member (codes "refused") (string r.name)
     no_members))))
 
--- a refused drawing
-unfoldable pub log_refusal_tree : LogRefusal → Data
-log_refusal_tree drawing.Full = refusal_tree None None None (codes "Full")
-log_refusal_tree (drawing.BadRect op) = refusal_tree None (Some invalid_argument) (Some op) (codes "BadRect")
+abbrev pub refused_drawing : LogRefusal → Refusal
+refused_drawing drawing.Full = named (codes "Full")
+refused_drawing (drawing.BadRect op) = record (named (codes "BadRect")) { code = Some invalid_argument; op = Some op }
 
--- a refused opening
-unfoldable pub open_refusal_tree : OpenRefusal → Data
-open_refusal_tree opening.AlreadyDuplicating = refusal_tree None (Some invalid_argument) None (codes "AlreadyDuplicating")
-open_refusal_tree opening.NotAvailable = refusal_tree None (Some not_available) None (codes "NotAvailable")
-open_refusal_tree opening.Full = refusal_tree None None None (codes "Full")
+abbrev pub refused_opening : OpenRefusal → Refusal
+refused_opening opening.AlreadyDuplicating = record (named (codes "AlreadyDuplicating")) { code = Some invalid_argument }
+refused_opening opening.NotAvailable = record (named (codes "NotAvailable")) { code = Some not_available }
+refused_opening opening.Full = named (codes "Full")
 
 -- a refused call, with the whole buffer that it was given, if any
-unfoldable pub dup_refusal_tree : DupRefusal → Option (List ℕ) → Data
-dup_refusal_tree call.InvalidCall buffer = refusal_tree buffer (Some invalid_call) None (codes "InvalidCall")
-dup_refusal_tree call.WaitTimeout buffer = refusal_tree buffer (Some wait_timeout) None (codes "WaitTimeout")
-dup_refusal_tree call.OutOfMemory buffer = refusal_tree buffer None None (codes "OutOfMemory")
+abbrev pub refused_call : DupRefusal → Option (List ℕ) → Refusal
+refused_call call.InvalidCall buffer = record (named (codes "InvalidCall")) { code = Some invalid_call; buffer = buffer }
+refused_call call.WaitTimeout buffer = record (named (codes "WaitTimeout")) { code = Some wait_timeout; buffer = buffer }
+refused_call call.OutOfMemory buffer = record (named (codes "OutOfMemory")) { buffer = buffer }
+
+-- a call of a client that has no duplicator
+abbrev pub refused_client : Refusal
+refused_client = named (codes "NoDuplicator")
 
 -- ---- answers
 
 unfoldable pub answer_tree : Answer → Data
 answer_tree (answer.Entered entry) = object (member (codes "entry") (count entry) no_members)
-answer_tree (answer.NotDrawn refusal) = log_refusal_tree refusal
+answer_tree (answer.NotDrawn refusal) = refusal_tree (refused_drawing refusal)
 answer_tree (answer.Opened entry slot) = object (member (codes "entry") (count entry) (member (codes "slot") (count slot) no_members))
-answer_tree (answer.NotOpened refusal) = open_refusal_tree refusal
+answer_tree (answer.NotOpened refusal) = refusal_tree (refused_opening refusal)
 answer_tree (answer.Frame info moves dirt) = frame_tree info moves dirt
 answer_tree answer.Released = object (member (codes "released") (boolean true) no_members)
 answer_tree (answer.Surface rows) = surface_tree rows
-answer_tree (answer.Refused refusal buffer) = dup_refusal_tree refusal buffer
-answer_tree answer.NoDuplicator = refusal_tree None None None (codes "NoDuplicator")
+answer_tree (answer.Refused refusal buffer) = refusal_tree (refused_call refusal buffer)
+answer_tree answer.NoDuplicator = refusal_tree refused_client

@@ -14,6 +14,14 @@ pub record IsJson (bytes : List ℕ) (d : Data) : Type 0 where
   pub text : IsUtf8 bytes
   pub tree : read bytes ≡ Some d
 
+-- the bytes are the text of a tree that is this script
+abbrev pub IsScript : List ℕ → Script → Type 0
+IsScript b s = (d : Data) × IsJson b d × (script_of d ≡ Some s)
+
+-- the bytes have no JSON reading, or a tree that is no script
+abbrev pub IsNoScript : List ℕ → Type 0
+IsNoScript b = (d : Data) → IsJson b d → script_of d ≡ None
+
 -- why a part of a tree wasn't read
 abbrev pub Refuses : {A : Type 0} → ScriptFault → Option A → Type 0
 Refuses NotJson read = ⊥
@@ -34,7 +42,7 @@ ReadsTree (Err OutOfMemory) bytes = Unit {0}
 
 -- the bytes are a script, or a tree that is none, or no tree; want of memory says nothing
 abbrev pub Reads : Result Script ScriptFault → List ℕ → Type 0
-Reads (Ok s) bytes = (d : Data) × IsJson bytes d × (script_of d ≡ Some s)
+Reads (Ok s) bytes = IsScript bytes s
 Reads (Err NotScript) bytes = (d : Data) × IsJson bytes d × (script_of d ≡ None)
 Reads (Err NotJson) bytes = (d : Data) → IsJson bytes d → ⊥
 Reads (Err OutOfMemory) bytes = Unit {0}

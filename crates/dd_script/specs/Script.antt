@@ -25,7 +25,9 @@ use Rattle.dd_station.specs.declared.steps.Step.{Step}
 use Rattle.dd_station.specs.declared.steps.Step.TheVariants.{Draw, Call}
 use Rattle.dd_station.specs.declared.steps.Script.{Script}
 use Rattle.dd_station.specs.Run.{IsOfClient}
-use Rattle.dd_script.specs.declared.reading.limits.TheConstants.{MAX_CAPACITY, MAX_CLIENTS, MAX_PRIVILEGED}
+use Rattle.dd_log.specs.declared.events.TheConstants.{MAX_CAPACITY}
+use Rattle.dd_station.specs.declared.steps.TheConstants.{MAX_CLIENTS}
+use Rattle.dd_script.specs.declared.reading.limits.TheConstants.{MAX_PRIVILEGED}
 
 -- the second step, where the first gave a value
 infixl 10 ◌>>=◌
@@ -223,8 +225,8 @@ apps_of d = list_of d >>= each u32_of
 -- ---- the script
 
 -- {"modes":modes,"capacity":capacity,"privileged":[applications],"clients":[applications],"steps":[steps]}
-unfoldable pub form_of : Data → Option Script
-form_of d = if has_keys 5 d then (do
+unfoldable pub parts_of : Data → Option Script
+parts_of d = if has_keys 5 d then (do
   modes ← get (codes "modes") d >>= modes_of
   capacity ← get (codes "capacity") d >>= u32_of
   privileged ← get (codes "privileged") d >>= apps_of
@@ -269,7 +271,7 @@ has_one_duplicator s =
 -- the script that a tree is
 unfoldable pub script_of : Data → Option Script
 script_of d = do
-  s ← form_of d
+  s ← parts_of d
   if keeps_limits s && has_one_duplicator s then Some s else None
 
 -- ---- what holds of each script

@@ -12,7 +12,7 @@ ghost use Rattle.std.specs.Prelude.{◌≡◌, ℕ, List, IfOk};
 ghost use Rattle.serde_json.specs.Data.{Data};
 ghost use Rattle.serde_json.specs.View.{view};
 ghost use Rattle.dd_script.specs.Reading.{IsJson, Gives, ReadsTree, Reads};
-ghost use Rattle.dd_script.specs.Script.{form_of, script_of, IsRunnable};
+ghost use Rattle.dd_script.specs.Script.{parts_of, script_of, IsRunnable};
 
 use crate::fault::ScriptFault;
 use crate::reading::calls::steps_of;
@@ -21,7 +21,6 @@ use crate::reading::output::{apps_of, modes_of};
 use crate::reading::tree::{has_keys, member, u32_of};
 use dd_log::Spec;
 use dd_station::Script;
-pub use limits::{MAX_CAPACITY, MAX_CLIENTS, MAX_PRIVILEGED};
 use serde_json::Value;
 use std::alloc::Global;
 
@@ -30,7 +29,7 @@ fn tree_of(alloc: Global, bytes: &[u8]) -> Result<Value, ScriptFault>
     ensures { ReadsTree result bytes.now }
 {
     match Value::from_slice(alloc, bytes) {
-        Ok(value) => Ok(value),
+        Ok(tree) => Ok(tree),
         Err(e) if e.is_memory() => Err(ScriptFault::OutOfMemory),
         Err(_) => Err(ScriptFault::NotJson),
     }
@@ -38,18 +37,18 @@ fn tree_of(alloc: Global, bytes: &[u8]) -> Result<Value, ScriptFault>
 
 /// `{"modes":modes,"capacity":capacity,"privileged":[applications],"clients":[applications],
 /// "steps":[steps]}`.
-#[tactic(auto, unfolding(crate::specs::Script::form_of))]
-fn form_of(alloc: Global, value: &Value) -> Result<Script, ScriptFault>
-    ensures { Gives (λ s. s) result (form_of (view value.now)) }
+#[tactic(auto, unfolding(crate::specs::Script::parts_of))]
+fn parts_of(alloc: Global, tree: &Value) -> Result<Script, ScriptFault>
+    ensures { Gives (λ s. s) result (parts_of (view tree.now)) }
 {
-    if !has_keys(value, 5) {
+    if !has_keys(tree, 5) {
         return Err(ScriptFault::NotScript);
     }
-    let modes = modes_of(alloc, member(value, "modes")?)?;
-    let capacity = u32_of(member(value, "capacity")?).ok_or(ScriptFault::NotScript)?;
-    let privileged = apps_of(alloc, member(value, "privileged")?)?;
-    let clients = apps_of(alloc, member(value, "clients")?)?;
-    let steps = steps_of(alloc, member(value, "steps")?)?;
+    let modes = modes_of(alloc, member(tree, "modes")?)?;
+    let capacity = u32_of(member(tree, "capacity")?).ok_or(ScriptFault::NotScript)?;
+    let privileged = apps_of(alloc, member(tree, "privileged")?)?;
+    let clients = apps_of(alloc, member(tree, "clients")?)?;
+    let steps = steps_of(alloc, member(tree, "steps")?)?;
     let spec = Spec {
         modes,
         capacity,
@@ -64,10 +63,10 @@ fn form_of(alloc: Global, value: &Value) -> Result<Script, ScriptFault>
 
 /// The script that a tree is.
 #[tactic(auto, unfolding(crate::specs::Script::script_of))]
-fn script_of(alloc: Global, value: &Value) -> Result<Script, ScriptFault>
-    ensures { Gives (λ s. s) result (script_of (view value.now)) }
+fn script_of(alloc: Global, tree: &Value) -> Result<Script, ScriptFault>
+    ensures { Gives (λ s. s) result (script_of (view tree.now)) }
 {
-    let script = form_of(alloc, value)?;
+    let script = parts_of(alloc, tree)?;
     if keeps_limits(&script) && has_one_duplicator(&script) {
         Ok(script)
     } else {

@@ -28,37 +28,37 @@ fn call_named(name: &str) -> Option<ClientCall>
 
 /// `{"client":k,"call":name}`.
 #[tactic(auto, unfolding(crate::specs::Script::call_of))]
-fn call_of(value: &Value) -> Option<Step>
-    ensures { result ≡ call_of (view value.now) }
+fn call_of(tree: &Value) -> Option<Step>
+    ensures { result ≡ call_of (view tree.now) }
 {
-    if !has_keys(value, 2) {
+    if !has_keys(tree, 2) {
         return None;
     }
-    let client = u32_of(value.get("client")?)?;
-    let call = call_named(value.get("call")?.as_str()?)?;
+    let client = u32_of(tree.get("client")?)?;
+    let call = call_named(tree.get("call")?.as_str()?)?;
     Some(Step::Call { client, call })
 }
 
 /// A call where there is a client, else a drawing.
 #[tactic(auto, unfolding(crate::specs::Script::step_of))]
-fn step_of(alloc: Global, value: &Value) -> Result<Step, ScriptFault>
-    ensures { Gives (λ s. s) result (step_of (view value.now)) }
+fn step_of(alloc: Global, tree: &Value) -> Result<Step, ScriptFault>
+    ensures { Gives (λ s. s) result (step_of (view tree.now)) }
 {
-    if value.get("client").is_some() {
-        call_of(value).ok_or(ScriptFault::NotScript)
+    if tree.get("client").is_some() {
+        call_of(tree).ok_or(ScriptFault::NotScript)
     } else {
-        Ok(Step::Draw(draw_of(alloc, value)?))
+        Ok(Step::Draw(draw_of(alloc, tree)?))
     }
 }
 
-/// The steps of the values, in their order.
+/// The steps of the trees, in their order.
 #[tactic(auto, using(crate::proofs::Each::one_by_one))]
-fn each_step(alloc: Global, values: &[Value]) -> Result<Vec<Step>, ScriptFault>
-    ensures { Gives (λ v. v.items) result (each step_of (map view values.now)) }
+fn each_step(alloc: Global, trees: &[Value]) -> Result<Vec<Step>, ScriptFault>
+    ensures { Gives (λ v. v.items) result (each step_of (map view trees.now)) }
 {
     let mut steps = Vec::new(alloc);
-    for value in values {
-        let step = step_of(alloc, value)?;
+    for tree in trees {
+        let step = step_of(alloc, tree)?;
         steps.push(step)?;
     }
     Ok(steps)
@@ -66,9 +66,9 @@ fn each_step(alloc: Global, values: &[Value]) -> Result<Vec<Step>, ScriptFault>
 
 /// A list of steps.
 #[tactic(auto, unfolding(crate::specs::Script::steps_of))]
-pub fn steps_of(alloc: Global, value: &Value) -> Result<Steps, ScriptFault>
-    ensures { Gives (λ s. s) result (steps_of (view value.now)) }
+pub fn steps_of(alloc: Global, tree: &Value) -> Result<Steps, ScriptFault>
+    ensures { Gives (λ s. s) result (steps_of (view tree.now)) }
 {
-    let values = list_of(value).ok_or(ScriptFault::NotScript)?;
-    Ok(Steps::from_vec(each_step(alloc, values)?))
+    let trees = list_of(tree).ok_or(ScriptFault::NotScript)?;
+    Ok(Steps::from_vec(each_step(alloc, trees)?))
 }

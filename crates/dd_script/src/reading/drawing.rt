@@ -20,16 +20,16 @@ use std::alloc::{AllocError, Global};
 
 /// `[left, top, right, bottom]`.
 #[tactic(auto, unfolding(crate::specs::Script::rect_of))]
-fn rect_of(value: &Value) -> Option<Rect>
-    ensures { result ≡ rect_of (view value.now) }
+fn rect_of(tree: &Value) -> Option<Rect>
+    ensures { result ≡ rect_of (view tree.now) }
 {
-    if !has_items(value, 4) {
+    if !has_items(tree, 4) {
         return None;
     }
-    let left = i32_of(value.get(0usize)?)?;
-    let top = i32_of(value.get(1usize)?)?;
-    let right = i32_of(value.get(2usize)?)?;
-    let bottom = i32_of(value.get(3usize)?)?;
+    let left = i32_of(tree.get(0usize)?)?;
+    let top = i32_of(tree.get(1usize)?)?;
+    let right = i32_of(tree.get(2usize)?)?;
+    let bottom = i32_of(tree.get(3usize)?)?;
     Some(Rect {
         left,
         top,
@@ -40,23 +40,23 @@ fn rect_of(value: &Value) -> Option<Rect>
 
 /// `[x, y]`.
 #[tactic(auto, unfolding(crate::specs::Script::point_of))]
-fn point_of(value: &Value) -> Option<Point>
-    ensures { result ≡ point_of (view value.now) }
+fn point_of(tree: &Value) -> Option<Point>
+    ensures { result ≡ point_of (view tree.now) }
 {
-    if !has_items(value, 2) {
+    if !has_items(tree, 2) {
         return None;
     }
-    let x = i32_of(value.get(0usize)?)?;
-    let y = i32_of(value.get(1usize)?)?;
+    let x = i32_of(tree.get(0usize)?)?;
+    let y = i32_of(tree.get(1usize)?)?;
     Some(Point { x, y })
 }
 
 /// Six hexadecimal digits: red, green, blue.
 #[tactic(auto, unfolding(crate::specs::Script::colour_of))]
-fn colour_of(value: &Value) -> Option<u32>
-    ensures { result ≡ colour_of (view value.now) }
+fn colour_of(tree: &Value) -> Option<u32>
+    ensures { result ≡ colour_of (view tree.now) }
 {
-    let [red, green, blue] = <[u8; 3] as FromHex>::from_hex(value.as_str()?).ok()?;
+    let [red, green, blue] = <[u8; 3] as FromHex>::from_hex(tree.as_str()?).ok()?;
     Some(u32::from_be_bytes([0, red, green, blue]))
 }
 
@@ -97,41 +97,41 @@ fn colours_from(alloc: Global, bytes: &[u8]) -> Result<Colours, ScriptFault>
 
 /// Hexadecimal digits, six for each colour.
 #[tactic(auto, unfolding(crate::specs::Script::colours_of))]
-fn colours_of(alloc: Global, value: &Value) -> Result<Colours, ScriptFault>
-    ensures { Gives (λ colours. colours) result (colours_of (view value.now)) }
+fn colours_of(alloc: Global, tree: &Value) -> Result<Colours, ScriptFault>
+    ensures { Gives (λ colours. colours) result (colours_of (view tree.now)) }
 {
-    let text = value.as_str().ok_or(ScriptFault::NotScript)?;
+    let text = tree.as_str().ok_or(ScriptFault::NotScript)?;
     let bytes = bytes_of(alloc, text)?;
     colours_from(alloc, bytes.as_slice())
 }
 
 /// `{"fill":R,"colour":colour}`.
 #[tactic(auto, unfolding(crate::specs::Script::fill_of))]
-fn fill_of(value: &Value) -> Option<Op>
-    ensures { result ≡ fill_of (view value.now) }
+fn fill_of(tree: &Value) -> Option<Op>
+    ensures { result ≡ fill_of (view tree.now) }
 {
-    let rect = rect_of(value.get("fill")?)?;
-    let colour = colour_of(value.get("colour")?)?;
+    let rect = rect_of(tree.get("fill")?)?;
+    let colour = colour_of(tree.get("colour")?)?;
     Some(Op::Fill { rect, colour })
 }
 
 /// `{"blit":R,"colours":colours}`.
 #[tactic(auto, unfolding(crate::specs::Script::blit_of))]
-fn blit_of(alloc: Global, value: &Value) -> Result<Op, ScriptFault>
-    ensures { Gives (λ op. op) result (blit_of (view value.now)) }
+fn blit_of(alloc: Global, tree: &Value) -> Result<Op, ScriptFault>
+    ensures { Gives (λ op. op) result (blit_of (view tree.now)) }
 {
-    let rect = rect_of(member(value, "blit")?).ok_or(ScriptFault::NotScript)?;
-    let colours = colours_of(alloc, member(value, "colours")?)?;
+    let rect = rect_of(member(tree, "blit")?).ok_or(ScriptFault::NotScript)?;
+    let colours = colours_of(alloc, member(tree, "colours")?)?;
     Ok(Op::Blit { rect, colours })
 }
 
 /// `{"scroll":R,"from":[x,y]}`: the destination, and the source's point.
 #[tactic(auto, unfolding(crate::specs::Script::scroll_of))]
-fn scroll_of(value: &Value) -> Option<Op>
-    ensures { result ≡ scroll_of (view value.now) }
+fn scroll_of(tree: &Value) -> Option<Op>
+    ensures { result ≡ scroll_of (view tree.now) }
 {
-    let dest = rect_of(value.get("scroll")?)?;
-    let source = point_of(value.get("from")?)?;
+    let dest = rect_of(tree.get("scroll")?)?;
+    let source = point_of(tree.get("from")?)?;
     Some(Op::Scroll {
         mv: Move { source, dest },
     })
@@ -139,30 +139,30 @@ fn scroll_of(value: &Value) -> Option<Op>
 
 /// An operation has two keys, of which one tells its kind.
 #[tactic(auto, unfolding(crate::specs::Script::operation_of))]
-fn operation_of(alloc: Global, value: &Value) -> Result<Op, ScriptFault>
-    ensures { Gives (λ op. op) result (operation_of (view value.now)) }
+fn operation_of(alloc: Global, tree: &Value) -> Result<Op, ScriptFault>
+    ensures { Gives (λ op. op) result (operation_of (view tree.now)) }
 {
-    if !has_keys(value, 2) {
+    if !has_keys(tree, 2) {
         return Err(ScriptFault::NotScript);
     }
-    if value.get("fill").is_some() {
-        fill_of(value).ok_or(ScriptFault::NotScript)
-    } else if value.get("blit").is_some() {
-        blit_of(alloc, value)
+    if tree.get("fill").is_some() {
+        fill_of(tree).ok_or(ScriptFault::NotScript)
+    } else if tree.get("blit").is_some() {
+        blit_of(alloc, tree)
     } else {
-        scroll_of(value).ok_or(ScriptFault::NotScript)
+        scroll_of(tree).ok_or(ScriptFault::NotScript)
     }
 }
 
-/// The operations of the values, in their order.
+/// The operations of the trees, in their order.
 #[tactic(auto, using(crate::proofs::Each::one_by_one))]
-fn each_operation(alloc: Global, values: &[Value]) -> Result<Ops, ScriptFault>
-    requires { length values.now ≤ MAX_OPS }
-    ensures { Gives (λ ops. ops) result (each operation_of (map view values.now)) }
+fn each_operation(alloc: Global, trees: &[Value]) -> Result<Ops, ScriptFault>
+    requires { length trees.now ≤ MAX_OPS }
+    ensures { Gives (λ ops. ops) result (each operation_of (map view trees.now)) }
 {
     let mut ops = Ops::new(alloc);
-    for value in values {
-        let op = operation_of(alloc, value)?;
+    for tree in trees {
+        let op = operation_of(alloc, tree)?;
         ops.push(op)?;
     }
     Ok(ops)
@@ -170,24 +170,24 @@ fn each_operation(alloc: Global, values: &[Value]) -> Result<Ops, ScriptFault>
 
 /// A list of 0 to 64 operations.
 #[tactic(auto, unfolding(crate::specs::Script::operations_of))]
-fn operations_of(alloc: Global, value: &Value) -> Result<Ops, ScriptFault>
-    ensures { Gives (λ ops. ops) result (operations_of (view value.now)) }
+fn operations_of(alloc: Global, tree: &Value) -> Result<Ops, ScriptFault>
+    ensures { Gives (λ ops. ops) result (operations_of (view tree.now)) }
 {
-    let values = list_of(value).ok_or(ScriptFault::NotScript)?;
-    if values.len() > MAX_OPS {
+    let trees = list_of(tree).ok_or(ScriptFault::NotScript)?;
+    if trees.len() > MAX_OPS {
         return Err(ScriptFault::NotScript);
     }
-    each_operation(alloc, values)
+    each_operation(alloc, trees)
 }
 
 /// `{"present":[operations]}`.
 #[tactic(auto, unfolding(crate::specs::Script::draw_of))]
-pub fn draw_of(alloc: Global, value: &Value) -> Result<Draw, ScriptFault>
-    ensures { Gives (λ d. d) result (draw_of (view value.now)) }
+pub fn draw_of(alloc: Global, tree: &Value) -> Result<Draw, ScriptFault>
+    ensures { Gives (λ d. d) result (draw_of (view tree.now)) }
 {
-    if !has_keys(value, 1) {
+    if !has_keys(tree, 1) {
         return Err(ScriptFault::NotScript);
     }
-    let ops = operations_of(alloc, member(value, "present")?)?;
+    let ops = operations_of(alloc, member(tree, "present")?)?;
     Ok(Draw::Present(ops))
 }

@@ -5,16 +5,11 @@ ghost use Rattle.std.specs.List.{list_all};
 ghost use Rattle.dd_script.specs.Script.{has_client, keeps_limits};
 ghost use Rattle.dd_script.specs.Script.{is_duplicate, opens_first, has_one_duplicator};
 
-use dd_station::{ClientCall, Script, Step};
-
-/// The greatest capacity of an output's list, the entry of its end included.
-pub const MAX_CAPACITY: u32 = 1_048_576;
-
-/// The most clients of a script.
-pub const MAX_CLIENTS: usize = 16;
+use dd_log::MAX_CAPACITY;
+use dd_station::{ClientCall, MAX_CLIENTS, Script, Step};
 
 /// The most applications that may duplicate a secure desktop.
-pub const MAX_PRIVILEGED: usize = 16;
+const MAX_PRIVILEGED: usize = 16;
 
 /// Whether a call is of one of n clients, numbered from 1.
 fn has_client(step: &Step, n: usize) -> bool

@@ -29,15 +29,15 @@ fn rotation_numbered(number: u32) -> Option<Rotation>
 
 /// `[width, height, rotation]`.
 #[tactic(auto, unfolding(crate::specs::Script::mode_of))]
-fn mode_of(value: &Value) -> Option<Mode>
-    ensures { result ≡ mode_of (view value.now) }
+fn mode_of(tree: &Value) -> Option<Mode>
+    ensures { result ≡ mode_of (view tree.now) }
 {
-    if !has_items(value, 3) {
+    if !has_items(tree, 3) {
         return None;
     }
-    let width = u32_of(value.get(0usize)?)?;
-    let height = u32_of(value.get(1usize)?)?;
-    let rotation = rotation_numbered(u32_of(value.get(2usize)?)?)?;
+    let width = u32_of(tree.get(0usize)?)?;
+    let height = u32_of(tree.get(1usize)?)?;
+    let rotation = rotation_numbered(u32_of(tree.get(2usize)?)?)?;
     Some(Mode {
         width,
         height,
@@ -45,14 +45,14 @@ fn mode_of(value: &Value) -> Option<Mode>
     })
 }
 
-/// The modes of the values, in their order.
+/// The modes of the trees, in their order.
 #[tactic(auto, using(crate::proofs::Each::one_by_one))]
-fn each_mode(alloc: Global, values: &[Value]) -> Result<Vec<Mode>, ScriptFault>
-    ensures { Gives (λ v. v.items) result (each mode_of (map view values.now)) }
+fn each_mode(alloc: Global, trees: &[Value]) -> Result<Vec<Mode>, ScriptFault>
+    ensures { Gives (λ v. v.items) result (each mode_of (map view trees.now)) }
 {
     let mut modes = Vec::new(alloc);
-    for value in values {
-        let mode = mode_of(value).ok_or(ScriptFault::NotScript)?;
+    for tree in trees {
+        let mode = mode_of(tree).ok_or(ScriptFault::NotScript)?;
         modes.push(mode)?;
     }
     Ok(modes)
@@ -60,22 +60,22 @@ fn each_mode(alloc: Global, values: &[Value]) -> Result<Vec<Mode>, ScriptFault>
 
 /// Modes that an output may have.
 #[tactic(auto, unfolding(crate::specs::Script::modes_of))]
-pub fn modes_of(alloc: Global, value: &Value) -> Result<Modes, ScriptFault>
-    ensures { Gives (λ modes. modes) result (modes_of (view value.now)) }
+pub fn modes_of(alloc: Global, tree: &Value) -> Result<Modes, ScriptFault>
+    ensures { Gives (λ modes. modes) result (modes_of (view tree.now)) }
 {
-    let values = list_of(value).ok_or(ScriptFault::NotScript)?;
-    let modes = each_mode(alloc, values)?;
+    let trees = list_of(tree).ok_or(ScriptFault::NotScript)?;
+    let modes = each_mode(alloc, trees)?;
     Modes::from_vec(modes).ok_or(ScriptFault::NotScript)
 }
 
-/// The numbers of the values, in their order.
+/// The numbers of the trees, in their order.
 #[tactic(auto, using(crate::proofs::Each::one_by_one))]
-fn each_number(alloc: Global, values: &[Value]) -> Result<Vec<u32>, ScriptFault>
-    ensures { Gives (λ v. v.items) result (each u32_of (map view values.now)) }
+fn each_number(alloc: Global, trees: &[Value]) -> Result<Vec<u32>, ScriptFault>
+    ensures { Gives (λ v. v.items) result (each u32_of (map view trees.now)) }
 {
     let mut numbers = Vec::new(alloc);
-    for value in values {
-        let number = u32_of(value).ok_or(ScriptFault::NotScript)?;
+    for tree in trees {
+        let number = u32_of(tree).ok_or(ScriptFault::NotScript)?;
         numbers.push(number)?;
     }
     Ok(numbers)
@@ -83,9 +83,9 @@ fn each_number(alloc: Global, values: &[Value]) -> Result<Vec<u32>, ScriptFault>
 
 /// A list of applications.
 #[tactic(auto, unfolding(crate::specs::Script::apps_of))]
-pub fn apps_of(alloc: Global, value: &Value) -> Result<Apps, ScriptFault>
-    ensures { Gives (λ apps. apps) result (apps_of (view value.now)) }
+pub fn apps_of(alloc: Global, tree: &Value) -> Result<Apps, ScriptFault>
+    ensures { Gives (λ apps. apps) result (apps_of (view tree.now)) }
 {
-    let values = list_of(value).ok_or(ScriptFault::NotScript)?;
-    Ok(Apps::from_vec(each_number(alloc, values)?))
+    let trees = list_of(tree).ok_or(ScriptFault::NotScript)?;
+    Ok(Apps::from_vec(each_number(alloc, trees)?))
 }

@@ -4,5 +4,5 @@ use Rattle.dd_script.specs.Script.{each, u32_of}
 use Rattle.dd_script.proofs.Each.{with_front, left}
 use Rattle.dd_script.proofs.reading.output.each_number.Given as goal
 
-abbrev pub invariant-loop-value : goal.invariant-loop-value
-invariant-loop-value l = with_front l.numbers.items (left u32_of l.values l.value-index) ≡ each u32_of (map view l.values)
+abbrev pub invariant-loop-tree : goal.invariant-loop-tree
+invariant-loop-tree l = with_front l.numbers.items (left u32_of l.trees l.tree-index) ≡ each u32_of (map view l.trees)

@@ -11,7 +11,7 @@ use std::alloc::{AllocError, Global};
 
 /// A frame: its dirty rectangles, what is told of it, and its moves.
 #[tactic(auto, unfolding(crate::specs::Answers::frame_tree))]
-pub fn frame_value(
+pub fn frame_tree(
     alloc: Global,
     info: &FrameInfo,
     moves: &Moves,
@@ -19,18 +19,18 @@ pub fn frame_value(
 ) -> Result<Value, AllocError>
     ensures { IfOk result (λ v. view v ≡ frame_tree info.now moves.now dirt.now) }
 {
-    let dirty = rects_value(alloc, dirt.as_slice())?;
-    let frame = info_value(alloc, info)?;
-    let moves = moves_value(alloc, moves.as_slice())?;
+    let dirty = rect_array(alloc, dirt.as_slice())?;
+    let frame = info_tree(alloc, info)?;
+    let moves = move_array(alloc, moves.as_slice())?;
     json!(in alloc; {"dirty": dirty, "frame": frame, "moves": moves})
 }
 
 /// What is told of a frame.
 #[tactic(auto, unfolding(crate::specs::Answers::info_tree))]
-fn info_value(alloc: Global, info: &FrameInfo) -> Result<Value, AllocError>
+fn info_tree(alloc: Global, info: &FrameInfo) -> Result<Value, AllocError>
     ensures { IfOk result (λ v. view v ≡ info_tree info.now) }
 {
-    let position = point_value(alloc, info.pointer.position)?;
+    let position = point_tree(alloc, info.pointer.position)?;
     json!(in alloc; {
         "accumulated": info.accumulated,
         "coalesced": info.coalesced,
@@ -46,7 +46,7 @@ fn info_value(alloc: Global, info: &FrameInfo) -> Result<Value, AllocError>
 
 /// A point, as its two coordinates.
 #[tactic(auto, unfolding(crate::specs::Answers::point_tree))]
-fn point_value(alloc: Global, p: Point) -> Result<Value, AllocError>
+fn point_tree(alloc: Global, p: Point) -> Result<Value, AllocError>
     ensures { IfOk result (λ v. view v ≡ point_tree p) }
 {
     json!(in alloc; [p.x, p.y])
@@ -54,7 +54,7 @@ fn point_value(alloc: Global, p: Point) -> Result<Value, AllocError>
 
 /// A rectangle, as its left, top, right and bottom sides.
 #[tactic(auto, unfolding(crate::specs::Answers::rect_tree))]
-fn rect_value(alloc: Global, r: Rect) -> Result<Value, AllocError>
+fn rect_tree(alloc: Global, r: Rect) -> Result<Value, AllocError>
     ensures { IfOk result (λ v. view v ≡ rect_tree r) }
 {
     json!(in alloc; [r.left, r.top, r.right, r.bottom])
@@ -62,29 +62,29 @@ fn rect_value(alloc: Global, r: Rect) -> Result<Value, AllocError>
 
 /// A move, as its source point and the sides of its destination.
 #[tactic(auto, unfolding(crate::specs::Answers::move_tree))]
-fn move_value(alloc: Global, m: Move) -> Result<Value, AllocError>
+fn move_tree(alloc: Global, m: Move) -> Result<Value, AllocError>
     ensures { IfOk result (λ v. view v ≡ move_tree m) }
 {
     let Move { source, dest } = m;
     json!(in alloc; [source.x, source.y, dest.left, dest.top, dest.right, dest.bottom])
 }
 
-fn rects_value(alloc: Global, rects: &[Rect]) -> Result<Value, AllocError>
+fn rect_array(alloc: Global, rects: &[Rect]) -> Result<Value, AllocError>
     ensures { IfOk result (λ v. view v ≡ array_of rect_tree rects.now) }
 {
     let mut list = Vec::with_capacity(alloc, rects.len())?;
     for r in rects {
-        list.push(rect_value(alloc, *r)?)?;
+        list.push(rect_tree(alloc, *r)?)?;
     }
     Ok(Value::Array(list))
 }
 
-fn moves_value(alloc: Global, moves: &[Move]) -> Result<Value, AllocError>
+fn move_array(alloc: Global, moves: &[Move]) -> Result<Value, AllocError>
     ensures { IfOk result (λ v. view v ≡ array_of move_tree moves.now) }
 {
     let mut list = Vec::with_capacity(alloc, moves.len())?;
     for m in moves {
-        list.push(move_value(alloc, *m)?)?;
+        list.push(move_tree(alloc, *m)?)?;
     }
     Ok(Value::Array(list))
 }

@@ -1,0 +1,10 @@
+//! Answers as lines of JSON.
+
+mod answers;
+mod frames;
+mod refusals;
+mod surfaces;
+#[cfg(test)]
+mod tests;
+
+pub use answers::answer_text;
