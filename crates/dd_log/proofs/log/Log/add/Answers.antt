@@ -1,14 +1,14 @@
 use Rattle.std.proofs.Common.{◌≡◌, ◌+◌, ◌<◌, true, sym, subst, length, arith, rules}
 use Rattle.dd_log.specs.History.{History, may_add}
-use Rattle.dd_log.specs.Storage.{history}
-use Rattle.dd_log.proofs.Legal.{parts_of_may_add, room_for, legal-with_entry, slots-with_entry}
-use Rattle.dd_log.proofs.storage.Log.add.Goals as goal
+use Rattle.dd_log.specs.Log.{history}
+use Rattle.dd_log.proofs.Legal.{parts_of_may_add, room_for, legal-with_entry, desk-with_entry}
+use Rattle.dd_log.proofs.log.Log.add.Goals as goal
 
-pub open-requires : goal.open-requires
-open-requires c =
+pub follow-requires : goal.follow-requires
+follow-requires c =
     let may : may_add (history c.self.inside) c.args.entry ≡ true = subst (λ (h : History). may_add h c.args.entry ≡ true) (sym c.self.view_is) c.requires in
     let p = parts_of_may_add (history c.self.inside) c.args.entry may in
-    rw c.self.invariant.slots p.opening
+    rw c.self.invariant.desk p.opening
 
 pub push_reserved-requires : goal.push_reserved-requires
 push_reserved-requires c =
@@ -26,7 +26,7 @@ invariant_of-self c =
     let room = room_for (history c.self.inside) c.args.entry.event p.allowed in
     record {
       legal = rw c.push_reserved.ensures.items (legal-with_entry (history c.self.inside) c.args.entry c.self.invariant.legal may);
-      slots = rw (c.open.ensures, c.push_reserved.ensures.items, c.self.invariant.slots) (sym (slots-with_entry (history c.self.inside) c.args.entry));
+      desk = rw (c.follow.ensures, c.push_reserved.ensures.items, c.self.invariant.desk) (sym (desk-with_entry (history c.self.inside) c.args.entry));
       some = c.self.invariant.some;
       few = c.self.invariant.few;
       room = rw c.push_reserved.ensures.capacity c.self.invariant.room;

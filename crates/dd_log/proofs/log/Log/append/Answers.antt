@@ -3,7 +3,7 @@ use Rattle.std.specs.Prelude.{is_none}
 use Rattle.dd_log.specs.declared.answers.LogRefusal.{LogRefusal}
 use Rattle.dd_log.specs.History.{refusal, verdict}
 use Rattle.dd_log.proofs.Legal.{may_add_of_parts}
-use Rattle.dd_log.proofs.storage.Log.append.Goals as goal
+use Rattle.dd_log.proofs.log.Log.append.Goals as goal
 
 none_of_ok : (cause : Option LogRefusal) (x : Unit {0}) → Ok x ≡ verdict cause → is_none cause ≡ true
 none_of_ok None x e = refl

@@ -3,7 +3,7 @@
 ghost use Rattle.std.specs.Prelude.{◌≡◌, ℕ, ◌+◌, ◌≤◌, ◌<◌, length, drop, Ok, Err, Some, None, IsTrue, IfOk, OnOk, OnErr, IfSome, is_none, slice_get, option_map, position};
 ghost use Rattle.std.specs.Prelude.{◌==◌};
 ghost use Rattle.dd_ops.specs.Operations.{first_unfit as unfit_place};
-ghost use Rattle.dd_log.specs.History.{is_app as holds_app, opens_freely as opens_into, changed_slots, verdict as verdict_of};
+ghost use Rattle.dd_log.specs.History.{bad_rect, verdict as verdict_of};
 ghost use Rattle.std.specs.Option.{ForSome};
 ghost use Rattle.std.specs.Prelude.{◌^◌};
 ghost use Rattle.dd_ops.specs.declared.lists.TheConstants.{MAX_OPS};
@@ -11,22 +11,19 @@ ghost use Rattle.dd_geom.specs.Rect.{IsSize};
 ghost use Rattle.dd_log.specs.declared.events.TheConstants.{MAX_ACTORS, MAX_CAPACITY};
 
 use crate::answers::LogRefusal;
-use crate::events::{Draw, Entry, Event, MAX_CAPACITY, Spec};
+use crate::desk::Desk;
+use crate::events::{Entry, Event, MAX_CAPACITY, Spec};
 use dd_modes::Mode;
 use dd_ops::{Op, fits};
 use std::alloc::{AllocError, Global};
 use std::marker::Model;
-
-/// How many duplicators of one output may be open at once.
-pub const MAX_DUPLICATORS: usize = 4;
 
 /// The one list of an output's events: legal, with memory taken for all of its entries.
 #[derive(Debug, Drop)]
 pub struct Log {
     spec: Spec,
     entries: Vec<Entry>,
-    /// The application of each open slot.
-    slots: [Option<u32>; MAX_DUPLICATORS],
+    desk: Desk,
 }
 
 impl Model for Log {
@@ -34,7 +31,7 @@ impl Model for Log {
 
     ghost Value = { History };
 
-    ghost use Rattle.dd_log.specs.Storage.{history, IsKept};
+    ghost use Rattle.dd_log.specs.Log.{history, IsKept};
 
     ghost view = { history };
 
@@ -49,57 +46,10 @@ fn first_unfit(ops: &[Op], w: u32, h: u32) -> Option<usize>
     ops.iter().position(|op| !fits(op, w, h))
 }
 
-/// The slots after one event more.
-fn open(slots: &mut [Option<u32>; MAX_DUPLICATORS], event: &Event)
-    requires { IsTrue (opens_into slots.old event.now) }
-    ensures { slots.new ≡ changed_slots slots.old event.now }
-{
-    match event {
-        Event::Draw(_) => {}
-        Event::Opened { slot, app } => slots[*slot as usize] = Some(*app),
-    }
-}
-
-/// Whether a slot is open for the application.
-fn holds(slot: &Option<u32>, app: u32) -> bool
-    ensures { result ≡ holds_app app slot.now }
-{
-    match slot {
-        None => false,
-        Some(other) => *other == app,
-    }
-}
-
-/// The least slot that is open for the application.
-fn slot_with(slots: &[Option<u32>], app: u32) -> Option<usize>
-    ensures value { result ≡ position (holds_app app) slots.now }
-    ensures within { IfSome result (λ k. k < length slots.now) }
-{
-    slots.iter().position(|slot| holds(slot, app))
-}
-
-/// The least slot that is free.
-fn slot_without(slots: &[Option<u32>]) -> Option<usize>
-    ensures value { result ≡ position is_none slots.now }
-    ensures within { IfSome result (λ k. k < length slots.now) }
-{
-    slots.iter().position(|slot| slot.is_none())
-}
-
-fn as_number(slot: Option<usize>) -> Option<u32>
-    requires { ForSome slot (λ k. k < 2 ^ 32) }
-    ensures { result ≡ slot }
-{
-    match slot {
-        None => None,
-        Some(slot) => Some(slot as u32),
-    }
-}
-
 /// The cause of an operation that doesn't fit a surface of this size.
 fn check(ops: &[Op], w: u32, h: u32) -> Result<(), LogRefusal>
     requires { length ops.now ≤ MAX_OPS }
-    ensures { result ≡ verdict_of (option_map LogRefusal.BadRect (unfit_place w h ops.now)) }
+    ensures { result ≡ verdict_of (bad_rect w h ops.now) }
 {
     match first_unfit(ops, w, h) {
         None => Ok(()),
@@ -108,7 +58,8 @@ fn check(ops: &[Op], w: u32, h: u32) -> Result<(), LogRefusal>
 }
 
 impl Log {
-    ghost use Rattle.dd_log.specs.History.{begun, with_entry, legal, may_add, refusal, verdict, mode_of, is_full, is_app, slots, last_step, opens_freely, entries_fit};
+    ghost use Rattle.dd_log.specs.Desk.{desk, is_app, opens_freely};
+    ghost use Rattle.dd_log.specs.History.{begun, with_entry, legal, may_add, refusal, verdict, desk_mode, is_full, last_step, entries_fit};
 
     /// An empty list, with memory for all entries that it may ever have.
     pub fn start(alloc: Global, spec: Spec) -> Result<Log, AllocError>
@@ -120,7 +71,7 @@ impl Log {
         Ok(Log {
             spec,
             entries,
-            slots: [None; MAX_DUPLICATORS],
+            desk: Desk::first(),
         })
     }
 
@@ -129,7 +80,7 @@ impl Log {
         requires { IsTrue (may_add self.old entry) }
         ensures { self.new ≡ with_entry self.old entry }
     {
-        open(&mut self.slots, &entry.event);
+        self.desk.follow(&entry.event);
         self.entries.push_reserved(entry);
     }
 
@@ -140,9 +91,9 @@ impl Log {
         if self.full() {
             return Err(LogRefusal::Full);
         }
-        match event {
-            Event::Opened { .. } => Ok(()),
-            Event::Draw(Draw::Present(ops)) => {
+        match event.present() {
+            None => Ok(()),
+            Some(ops) => {
                 let mode = self.mode();
                 check(ops.as_slice(), mode.width, mode.height)
             }
@@ -153,7 +104,7 @@ impl Log {
     pub fn append(&mut self, entry: Entry) -> Result<(), LogRefusal>
         requires actor { entry.actor < MAX_ACTORS }
         requires step { last_step self.old.entries entry.actor < entry.step }
-        requires opening { IsTrue (opens_freely (slots self.old.entries) entry.event) }
+        requires opening { IsTrue (opens_freely (desk self.old.entries) entry.event) }
         ensures answer { result ≡ verdict (refusal self.old entry.event) }
         ensures ok { OnOk result (self.new ≡ with_entry self.old entry) }
         ensures err { OnErr result (self.new ≡ self.old) }
@@ -189,7 +140,7 @@ impl Log {
     pub fn after(&self, place: u64) -> &[Entry]
         requires { place ≤ length self.now.entries }
         ensures value { result.now ≡ drop place self.now.entries }
-        ensures fit { IsTrue (entries_fit (mode_of self.now).width (mode_of self.now).height result.now) }
+        ensures fit { IsTrue (entries_fit (desk_mode self.now).width (desk_mode self.now).height result.now) }
         ensures legal { IsTrue (legal self.now) }
         ensures few { length self.now.entries ≤ MAX_CAPACITY }
     {
@@ -199,7 +150,7 @@ impl Log {
 
     /// The mode of the desk.
     pub fn mode(&self) -> Mode
-        ensures value { result ≡ mode_of self.now }
+        ensures value { result ≡ desk_mode self.now }
         ensures size { IsSize result.width result.height }
     {
         self.spec.modes.first()
@@ -214,15 +165,15 @@ impl Log {
 
     /// The slot, 0 to 3, that is open for an application.
     pub fn slot_of(&self, app: u32) -> Option<u32>
-        ensures { result ≡ position (is_app app) (slots self.now.entries) }
+        ensures { result ≡ position (is_app app) ((desk self.now.entries).slots) }
     {
-        as_number(slot_with(&self.slots, app))
+        self.desk.slot_of(app)
     }
 
     /// The least slot that is free.
     pub fn free_slot(&self) -> Option<u32>
-        ensures { result ≡ position is_none (slots self.now.entries) }
+        ensures { result ≡ position is_none ((desk self.now.entries).slots) }
     {
-        as_number(slot_without(&self.slots))
+        self.desk.free_slot()
     }
 }
