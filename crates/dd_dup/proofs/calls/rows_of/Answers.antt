@@ -2,7 +2,7 @@ use Rattle.std.proofs.Common.{◌≡◌, ℕ, List, map, ◌++◌, ◌∷◌, []
 use Rattle.std.specs.List.{range_with_len}
 use Rattle.std.proofs.lemmas.List.FromFn.{map-range_with_len_more}
 use Rattle.dd_geom.specs.Grid.{row}
-use Rattle.dd_station.proofs.calls.rows_of.Goals as goal
+use Rattle.dd_dup.proofs.calls.rows_of.Goals as goal
 
 pub loop-y-preserved : goal.loop-y-preserved
 loop-y-preserved c =
