@@ -7,7 +7,7 @@ use Rattle.std.proofs.lemmas.List.Sums.{sum_by-cons}
 use Rattle.dd_geom.specs.declared.rect.Rect.{Rect}
 use Rattle.dd_geom.specs.declared.rect.Move.{Move}
 use Rattle.dd_geom.specs.Rect.{has, is_inside, is_move_inside, source_x, source_y}
-use Rattle.dd_geom.specs.Grid.{Grid, value_at}
+use Rattle.dd_geom.specs.Grid.{Grid, grid, value_at}
 use Rattle.dd_geom.proofs.GridLemmas.{length-cells}
 use Rattle.dd_grid.specs.Cell.{Cell, seen_cell}
 use Rattle.dd_grid.specs.Drawing.{cell_at, moved, seen}
@@ -15,7 +15,7 @@ use Rattle.dd_bits.specs.Area.{is_in}
 use Rattle.dd_bits.specs.CanonicalList.{canonical_list}
 use Rattle.dd_bits.proofs.Cover.{count_by-canonical_list, All-canonical_list}
 use Rattle.dd_ops.specs.declared.operations.Op.{Op}
-use Rattle.dd_acc.specs.Effects.{Effect, over, shifted, all_effects, moves_in, moves, dirt, is_coalesced, presents_fit, any_reaches}
+use Rattle.dd_acc.specs.Effects.{Effect, over, shifted, all_effects, moves_in, moves, dirt, is_coalesced, presents_fit, any_reaches, drawn_afresh}
 use Rattle.dd_acc.specs.Rebuild.{any_has, all_moved, rebuild, HasDrawn}
 use Rattle.dd_acc.proofs.Origins.{effect_fits}
 use Rattle.dd_acc.proofs.Counting.{each-fit}
@@ -23,9 +23,9 @@ use Rattle.dd_acc.proofs.Honest.{drawn-dirt, width-dirt, height-dirt, honest}
 use Rattle.dd_acc.proofs.Rebuilding.{rebuilds, width-presents, height-presents, width-moved, height-moved}
 use Rattle.dd_log.specs.declared.events.Entry.{Entry}
 use Rattle.dd_log.specs.History.{entries_fit}
-use Rattle.dd_log.specs.Desk.{presents, shown}
-use Rattle.dd_dup.specs.Reply.{moves_of, dirt_of}
-use Rattle.dd_dup.specs.Forward.{copied_each}
+use Rattle.dd_log.specs.Picture.{presents, shown}
+use Rattle.dd_dup.specs.News.{moves_of, dirt_of}
+use Rattle.dd_dup.specs.Walk.{copied_each}
 use Rattle.dd_dup.proofs.Entries.{presents-fit, shown-presents}
 use Rattle.dd_dup.proofs.Copies.{copied_each-copied}
 
@@ -111,17 +111,6 @@ copied_each-news p q s t ms rects es fit s_is t_is q_is ms_are rects_are =
     (height-shown p es ∙ sym (height-moved (moves_of es) (seen p)))
     ∙ rebuild-news p es fit)))
 
-pub rebuild-advanced :
-    (p : Grid Cell) (s t : Grid ℕ) (ms : List Move) (rects : List Rect) (es : List Entry)
-    → entries_fit p.width p.height es ≡ true → s ≡ seen p → t ≡ seen (shown p es) → ms ≡ moves_of es
-    → rects ≡ dirt_of p.width p.height es → rebuild s ms rects t ≡ t
-rebuild-advanced p s t ms rects es fit s_is t_is ms_are rects_are =
-    ap (λ u. rebuild u ms rects t) s_is
-    ∙ (ap (λ ns. rebuild (seen p) ns rects t) ms_are
-    ∙ (ap (λ rs. rebuild (seen p) (moves_of es) rs t) rects_are
-    ∙ (ap (rebuild (seen p) (moves_of es) (dirt_of p.width p.height es)) t_is
-    ∙ (rebuild-news p es fit ∙ sym t_is))))
-
 -- a point of a dirty rectangle is where an operation drew
 pub reached-news :
     (w h : ℕ) (es : List Entry) (x y : ℕ) → is_coalesced w h (presents es) ≡ false → entries_fit w h es ≡ true
@@ -129,3 +118,10 @@ pub reached-news :
 unfolding dirt_of
 reached-news w h es x y exact fit t =
     (honest w h (presents es) (presents-fit w h es fit)).reached exact x y (sym (any_has-list (dirt w h (presents es)) x y) ∙ t)
+
+-- and the dirty rectangles are those of what all effects draw afresh
+pub exact-news :
+    (w h : ℕ) (es : List Entry) → is_coalesced w h (presents es) ≡ false → entries_fit w h es ≡ true
+    → dirt_of w h es ≡ canonical_list (grid w h (drawn_afresh (all_effects (presents es))))
+unfolding dirt_of
+exact-news w h es exact fit = ap canonical_list ((honest w h (presents es) (presents-fit w h es fit)).exact exact)

@@ -9,7 +9,7 @@ use Rattle.dd_geom.proofs.GridLemmas.{grid_from_agree, grid-value_at, value_at-g
 use Rattle.dd_grid.specs.Cell.{Cell, seen_cell}
 use Rattle.dd_grid.specs.Drawing.{cell_at, moved, seen, taken}
 use Rattle.dd_acc.specs.Rebuild.{any_has, copied, all_moved}
-use Rattle.dd_dup.specs.Forward.{copied_each}
+use Rattle.dd_dup.specs.Walk.{copied_each}
 
 -- one turn of the loop
 pub copied_more : (s t : Grid ℕ) (rs : List Rect) (p : Grid Cell) (k : ℕ) (d : Rect) → k < length rs → t ≡ copied_each s (take k rs) p

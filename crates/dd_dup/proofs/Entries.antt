@@ -1,44 +1,82 @@
--- Entries one after another: what one more adds to the presents, the picture and what is accumulated.
-use Rattle.std.proofs.Common.{◌≡◌, ℕ, ◌+◌, ◌<◌, ◌≤◌, true, List, [], ◌∷◌, ◌++◌, length, take, get_or, refl, sym, ap, ◌∙◌, append-nil, arith, length-append}
-use Rattle.std.specs.List.{fold}
+-- Entries one after another: what one more adds to the presents, the picture and what is gathered.
+use Rattle.std.proofs.Common.{◌≡◌, ℕ, zero, suc, ◌+◌, ◌<◌, ◌≤◌, Bool, true, false, List, [], ◌∷◌, ◌++◌, length, take, drop, get_or, Option, Some, None, refl, sym, ap, ◌∙◌, append-nil, arith, length-append, if◌then◌else◌}
+use Rattle.std.specs.Prelude.{filter_map, is_some, option_map, IsSome}
+use Rattle.std.specs.List.{fold, cons_option}
 use Rattle.std.proofs.lemmas.Bool.{and_parts, and_from}
-use Rattle.std.proofs.lemmas.List.{take_more}
-use Rattle.std.proofs.lemmas.List.Concat.{flat_map-append}
+use Rattle.std.proofs.lemmas.List.{take_more, length-take, take-append-drop}
+use Rattle.std.proofs.lemmas.List.Elements.{filter_map-append}
 use Rattle.std.proofs.lemmas.List.Sums.{AllPass-from_list_all, fold_push}
-use Rattle.std.proofs.lemmas.List.{length-take}
 use Rattle.dd_geom.specs.Grid.{Grid}
 use Rattle.dd_grid.specs.Cell.{Cell}
+use Rattle.dd_bits.specs.CanonicalList.{canonical_list}
 use Rattle.dd_ops.specs.declared.operations.Op.{Op}
 use Rattle.dd_ops.specs.Operations.{all_fit, drawn}
 use Rattle.dd_acc.specs.Effects.{dirt, is_coalesced, moves, presents_fit}
 use Rattle.dd_acc.specs.Interval.{Interval, nothing, with_present}
-use Rattle.dd_acc.proofs.Counting.{composes, list_all-append}
+use Rattle.dd_acc.proofs.Counting.{composes}
 use Rattle.dd_acc.proofs.Honest.{width-dirt, height-dirt}
 use Rattle.dd_log.specs.declared.events.Entry.{Entry}
 use Rattle.dd_log.specs.declared.events.Event.{Event}
-use Rattle.dd_log.specs.declared.events.Event.TheVariants.{Opened}
-use Rattle.dd_log.specs.declared.events.Event.TheVariants as events
-use Rattle.dd_log.specs.declared.events.Draw.TheVariants.{Present}
-use Rattle.dd_log.specs.History.{event_fits, entries_fit}
-use Rattle.dd_log.specs.Desk.{present_of, presents, shown, shown_after}
-use Rattle.dd_dup.specs.Forward.{with_event, with_entries, accumulated}
+use Rattle.dd_log.specs.History.{present_of, present_fits, event_fits, entries_fit}
+use Rattle.dd_log.specs.Picture.{presents, drawn_if, shown, shown_after}
+use Rattle.dd_dup.specs.declared.frame.News.{News}
+use Rattle.dd_dup.specs.declared.news.Gathered.{Gathered}
+use Rattle.dd_dup.specs.News.{number_after, last_present, news_of, moves_of, dirt_of, where_any}
+use Rattle.dd_dup.specs.Walk.{interval_of, gathered_next, gathered_of, gathered, news_from}
 
 -- the entry at a place joins those before it
 take_item : (es : List Entry) (k : ℕ) (e : Entry) → k < length es → e ≡ get_or es k e → take (k + 1) es ≡ take k es ++ e ∷ []
 take_item es k e k_in is = take_more es k e k_in ∙ ap (λ x. take k es ++ x ∷ []) (sym is)
 
-pub presents_none : length (presents []) ≡ 0
+-- the presents of lists one after the other
+presents-append : (xs ys : List Entry) → presents (xs ++ ys) ≡ presents xs ++ presents ys
+unfolding presents
+presents-append xs ys = filter_map-append (λ e. present_of e.event) xs ys
+
+presents-one : (e : Entry) → presents (e ∷ []) ≡ cons_option (present_of e.event) []
+unfolding presents
+presents-one e = refl
+
+presents-cons : (e : Entry) (es : List Entry) → presents (e ∷ es) ≡ cons_option (present_of e.event) (presents es)
+unfolding presents
+presents-cons e es = refl
+
+presents_none : presents [] ≡ []
 unfolding presents
 presents_none = refl
 
-pub presents_more : (es : List Entry) (k : ℕ) (e : Entry) → k < length es → e ≡ get_or es k e
-    → length (presents (take (k + 1) es)) ≡ length (presents (take k es)) + length (present_of e.event)
-unfolding presents
+presents_more : (es : List Entry) (k : ℕ) (e : Entry) → k < length es → e ≡ get_or es k e
+    → presents (take (k + 1) es) ≡ presents (take k es) ++ cons_option (present_of e.event) []
 presents_more es k e k_in is =
-    ap (λ xs. length (presents xs)) (take_item es k e k_in is)
-    ∙ ap length (flat_map-append (λ x. present_of x.event) (take k es) (e ∷ []))
-    ∙ length-append (presents (take k es)) (present_of e.event ++ [])
-    ∙ ap (λ xs. length (presents (take k es)) + length xs) (append-nil (present_of e.event))
+    ap presents (take_item es k e k_in is)
+    ∙ presents-append (take k es) (e ∷ [])
+    ∙ ap (λ ps. presents (take k es) ++ ps) (presents-one e)
+
+-- there are no more presents than entries
+length-cons_option : (o : Option (List Op)) (ps : List (List Op)) → length (cons_option o ps) ≤ length ps + 1
+length-cons_option None ps = omega arith
+length-cons_option (Some ops) ps = omega arith
+
+pub length-presents : (es : List Entry) → length (presents es) ≤ length es
+length-presents [] = omega (arith, ap length presents_none)
+length-presents (e ∷ es) =
+    omega (arith, ap length (presents-cons e es), length-cons_option (present_of e.event) (presents es), length-presents es)
+
+-- a present among the entries is one of their presents
+one_at_least : (o : Option (List Op)) → is_some o ≡ true → 1 ≤ length (cons_option o [])
+one_at_least None t = cc
+one_at_least (Some ops) t = omega arith
+
+pub some_present : (es : List Entry) (k : ℕ) (e : Entry) → k < length es → e ≡ get_or es k e → IsSome (present_of e.event) → 1 ≤ length (presents es)
+some_present es k e k_in is t =
+    let more : List (List Op) = cons_option (present_of e.event) [] in
+    let before : List Entry = take (k + 1) es in
+    let rest : List Entry = drop (k + 1) es in
+    let split = ap length (ap presents (sym (take-append-drop (k + 1) es)) ∙ presents-append before rest) in
+    let longer = length-append (presents before) (presents rest) in
+    let here = ap length (presents_more es k e k_in is) in
+    let joined = length-append (presents (take k es)) more in
+    omega (arith, split, longer, here, joined, one_at_least (present_of e.event) t)
 
 pub shown_more : (p q : Grid Cell) (es : List Entry) (k : ℕ) (e : Entry) → k < length es → e ≡ get_or es k e → q ≡ shown p (take k es)
     → shown_after q e.event ≡ shown p (take (k + 1) es)
@@ -47,76 +85,110 @@ shown_more p q es k e k_in is so_far =
     ∙ sym (fold_push (λ g x. shown_after g x.event) p (take k es) e)
     ∙ ap (shown p) (sym (take_item es k e k_in is))
 
-pub accumulated_none : (w h : ℕ) → accumulated w h [] ≡ nothing w h
-unfolding accumulated
-accumulated_none w h = refl
-
-pub accumulated_more : (w h : ℕ) (i : Interval) (es : List Entry) (k : ℕ) (e : Entry) → k < length es → e ≡ get_or es k e → i ≡ accumulated w h (take k es)
-    → with_event i e.event ≡ accumulated w h (take (k + 1) es)
-unfolding accumulated
-accumulated_more w h i es k e k_in is so_far =
-    ap (λ j. with_event j e.event) so_far
-    ∙ sym (fold_push (λ j x. with_event j x.event) (nothing w h) (take k es) e)
-    ∙ ap (with_entries (nothing w h)) (sym (take_item es k e k_in is))
-
 -- each entry of a list that fits does
 pub fit_item : (w h : ℕ) (es : List Entry) (k : ℕ) (e : Entry) → entries_fit w h es ≡ true → k < length es → e ≡ get_or es k e → event_fits w h e.event ≡ true
 unfolding entries_fit
 fit_item w h es k e t k_in is = ap (λ (x : Entry). event_fits w h x.event) is ∙ AllPass-from_list_all (λ (x : Entry). event_fits w h x.event) es t k e k_in
 
--- accumulating keeps the size, and counts presents
-few_presents : (e : Event) → length (present_of e) ≤ 1
-few_presents (events.Draw (Present ops)) = omega arith
-few_presents (Opened slot app) = omega arith
+-- the last present of entries one after another
+last-push : (xs : List Entry) (e : Entry) (last place n : ℕ) → n ≡ place + length xs → last_present last place (xs ++ e ∷ []) ≡ number_after (last_present last place xs) n e.event
+last-push [] e last place n is = ap (λ k. number_after last k e.event) (omega arith)
+last-push (x ∷ xs) e last place n is = last-push xs e (number_after last place x.event) (place + 1) n (omega arith)
 
-pub length-presents : (es : List Entry) → length (presents es) ≤ length es
-unfolding presents
-length-presents [] = omega arith
-length-presents (e ∷ es) = omega (arith, length-presents es, few_presents e.event, length-append (present_of e.event) (presents es))
+last_more : (es : List Entry) (place k : ℕ) (e : Entry) → k < length es → e ≡ get_or es k e
+    → last_present 0 place (take (k + 1) es) ≡ number_after (last_present 0 place (take k es)) (place + k) e.event
+last_more es place k e k_in is =
+    ap (last_present 0 place) (take_item es k e k_in is)
+    ∙ last-push (take k es) e 0 place (place + k) (omega (arith, length-take k es))
 
--- the presents alone are accumulated
-with_entries-presents : (es : List Entry) (i : Interval) → with_entries i es ≡ fold with_present i (presents es)
-unfolding presents
-with_entries-presents [] i = refl
-with_entries-presents (e ∷ es) i = with_entries-presents es (with_event i e.event) ∙ one i e.event (presents es) where
-  one : (i : Interval) (e : Event) (ps : List (List Op)) → fold with_present (with_event i e) ps ≡ fold with_present i (present_of e ++ ps)
-  one i (events.Draw (Present ops)) ps = refl
-  one i (Opened slot app) ps = refl
+-- one present more is gathered
+gathered-push : (w h : ℕ) (ps : List (List Op)) (last number : ℕ) (o : Option (List Op))
+    → gathered_next w h (gathered_of w h ps last) number o ≡ gathered_of w h (ps ++ cons_option o []) (if is_some o then number else last)
+gathered-push w h ps last number None = ap (λ qs. gathered_of w h qs last) (sym (append-nil ps))
+gathered-push w h [] last number (Some ops) = refl
+gathered-push w h (p ∷ ps) last number (Some ops) =
+    ap (λ (i : Interval). Some (record { acc = i; last = number })) (sym (fold_push with_present (nothing w h) (p ∷ ps) ops))
 
-pub accumulated_is :
-    (w h : ℕ) (es : List Entry)
-    → accumulated w h es ≡ record { area = dirt w h (presents es); moves = moves (presents es); coalesced = is_coalesced w h (presents es); frames = length (presents es) }
-unfolding accumulated
-accumulated_is w h es = with_entries-presents es (nothing w h) ∙ composes w h (presents es)
+pub gathered_none : (w h place : ℕ) → gathered w h place [] ≡ None
+unfolding gathered presents
+gathered_none w h place = refl
 
-pub width-accumulated : (w h : ℕ) (es : List Entry) → (accumulated w h es).area.width ≡ w
-width-accumulated w h es = ap (λ (i : Interval). i.area.width) (accumulated_is w h es) ∙ width-dirt w h (presents es)
+pub gathered_more : (w h place k number : ℕ) (es : List Entry) (e : Entry) (so_far : Option Gathered) → k < length es → e ≡ get_or es k e → number ≡ place + k + 1
+    → so_far ≡ gathered w h place (take k es) → gathered_next w h so_far number (present_of e.event) ≡ gathered w h place (take (k + 1) es)
+unfolding gathered
+gathered_more w h place k number es e so_far k_in is numbered is_so_far =
+    let ps : List (List Op) = presents (take k es) in
+    let last : ℕ = last_present 0 place (take k es) in
+    ap (λ (g : Option Gathered). gathered_next w h g number (present_of e.event)) is_so_far
+    ∙ gathered-push w h ps last number (present_of e.event)
+    ∙ ap (gathered_of w h (ps ++ cons_option (present_of e.event) []))
+    (ap (λ n. if is_some (present_of e.event) then n else last) numbered ∙ sym (last_more es place k e k_in is))
+    ∙ ap (λ qs. gathered_of w h qs (last_present 0 place (take (k + 1) es))) (sym (presents_more es k e k_in is))
 
-pub height-accumulated : (w h : ℕ) (es : List Entry) → (accumulated w h es).area.height ≡ h
-height-accumulated w h es = ap (λ (i : Interval). i.area.height) (accumulated_is w h es) ∙ height-dirt w h (presents es)
+-- what is gathered is the dirt, the moves, the flag and the number of the presents
+abbrev interval : ℕ → ℕ → List (List Op) → Interval
+interval w h ps =
+    record { area = dirt w h ps; moves = moves ps; coalesced = is_coalesced w h ps; frames = length ps }
 
-pub frames-accumulated : (w h : ℕ) (es : List Entry) → (accumulated w h es).frames ≡ length (presents es)
-frames-accumulated w h es = ap (λ (i : Interval). i.frames) (accumulated_is w h es)
+interval_is : (w h : ℕ) (ps : List (List Op)) (last : ℕ) → interval_of w h (gathered_of w h ps last) ≡ interval w h ps
+interval_is w h [] last = composes w h []
+interval_is w h (p ∷ ps) last = composes w h (p ∷ ps)
 
-pub few_frames : (w h k n : ℕ) (es : List Entry) (i : Interval) → k ≤ n → i ≡ accumulated w h (take k es) → i.frames ≤ n
-few_frames w h k n es i k_in so_far =
-    omega (arith, ap (λ (j : Interval). j.frames) so_far, frames-accumulated w h (take k es), length-presents (take k es), length-take k es)
+gathered_is : (w h place : ℕ) (es : List Entry) (so_far : Option Gathered) → so_far ≡ gathered w h place es → interval_of w h so_far ≡ interval w h (presents es)
+unfolding gathered
+gathered_is w h place es so_far is = ap (interval_of w h) is ∙ interval_is w h (presents es) (last_present 0 place es)
+
+pub width-gathered : (w h place : ℕ) (es : List Entry) (so_far : Option Gathered) → so_far ≡ gathered w h place es → (interval_of w h so_far).area.width ≡ w
+width-gathered w h place es so_far is = ap (λ (i : Interval). i.area.width) (gathered_is w h place es so_far is) ∙ width-dirt w h (presents es)
+
+pub height-gathered : (w h place : ℕ) (es : List Entry) (so_far : Option Gathered) → so_far ≡ gathered w h place es → (interval_of w h so_far).area.height ≡ h
+height-gathered w h place es so_far is = ap (λ (i : Interval). i.area.height) (gathered_is w h place es so_far is) ∙ height-dirt w h (presents es)
+
+pub few_frames : (w h place k n : ℕ) (es : List Entry) (so_far : Option Gathered) → k ≤ n → so_far ≡ gathered w h place (take k es) → (interval_of w h so_far).frames ≤ n
+few_frames w h place k n es so_far k_in is =
+    omega (arith, ap (λ (i : Interval). i.frames) (gathered_is w h place (take k es) so_far is), length-presents (take k es), length-take k es)
+
+-- as news
+news_made : (w h place last : ℕ) (es : List Entry) (i : Interval) → last ≡ last_present 0 place es → i ≡ interval w h (presents es)
+    → news_from (record { acc = i; last = last }) ≡ news_of w h place es
+unfolding news_of dirt_of
+news_made w h place last es i last_is is =
+    ap (λ (j : Interval). news_from (record { acc = j; last = last })) is
+    ∙ ap (λ n. news_from (record { acc = interval w h (presents es); last = n })) last_is
+
+made_where : (w h place : ℕ) (es : List Entry) (ps : List (List Op)) → presents es ≡ ps
+    → option_map news_from (gathered_of w h ps (last_present 0 place es)) ≡ where_any ps (news_of w h place es)
+made_where w h place es [] is = refl
+made_where w h place es (p ∷ ps) is =
+    ap (λ (n : News). Some n)
+    (news_made w h place (last_present 0 place es) es (fold with_present (nothing w h) (p ∷ ps)) refl
+    (composes w h (p ∷ ps) ∙ ap (interval w h) (sym is)))
+
+pub gathered_news : (w h place : ℕ) (es : List Entry) → option_map news_from (gathered w h place es) ≡ where_any (presents es) (news_of w h place es)
+unfolding gathered
+gathered_news w h place es = made_where w h place es (presents es) refl
+
+-- the presents alone are drawn
+drawn_one : (p : Grid Cell) (o : Option (List Op)) (ps : List (List Op)) → fold drawn (drawn_if p o) ps ≡ fold drawn p (cons_option o ps)
+drawn_one p None ps = refl
+drawn_one p (Some ops) ps = refl
 
 pub shown-presents : (es : List Entry) (p : Grid Cell) → shown p es ≡ fold drawn p (presents es)
-unfolding presents
-shown-presents [] p = refl
-shown-presents (e ∷ es) p = shown-presents es (shown_after p e.event) ∙ one p e.event (presents es) where
-  one : (p : Grid Cell) (e : Event) (ps : List (List Op)) → fold drawn (shown_after p e) ps ≡ fold drawn p (present_of e ++ ps)
-  one p (events.Draw (Present ops)) ps = refl
-  one p (Opened slot app) ps = refl
+shown-presents [] p = ap (fold drawn p) (sym presents_none)
+shown-presents (e ∷ es) p =
+    shown-presents es (shown_after p e.event)
+    ∙ drawn_one p (present_of e.event) (presents es)
+    ∙ ap (fold drawn p) (sym (presents-cons e es))
 
 -- entries that fit are presents that do
+fit_one : (w h : ℕ) (o : Option (List Op)) (ps : List (List Op)) → present_fits w h o ≡ true → presents_fit w h ps ≡ true → presents_fit w h (cons_option o ps) ≡ true
+fit_one w h None ps f fs = fs
+fit_one w h (Some ops) ps f fs = and_from _ _ f fs
+
 pub presents-fit : (w h : ℕ) (es : List Entry) → entries_fit w h es ≡ true → presents_fit w h (presents es) ≡ true
-unfolding entries_fit presents
-presents-fit w h [] t = refl
+unfolding entries_fit
+presents-fit w h [] t = ap (presents_fit w h) presents_none
 presents-fit w h (e ∷ es) t =
     let both = and_parts (event_fits w h e.event) _ t in
-    list_all-append (λ ops. all_fit w h ops) (present_of e.event) (presents es) (one e.event both.0) (presents-fit w h es both.1) where
-      one : (ev : Event) → event_fits w h ev ≡ true → presents_fit w h (present_of ev) ≡ true
-      one (events.Draw (Present ops)) f = and_from _ _ f refl
-      one (Opened slot app) f = refl
+    ap (presents_fit w h) (presents-cons e es)
+    ∙ fit_one w h (present_of e.event) (presents es) both.0 (presents-fit w h es both.1)

@@ -1,4 +1,6 @@
+pub mod News
 pub mod Reply
-pub mod Stands
 pub mod Duplicator
-pub mod Forward
+pub mod Stands
+pub mod Dup
+pub mod Walk

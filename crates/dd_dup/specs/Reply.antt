@@ -1,22 +1,19 @@
 -- What one duplicator answers, told by its memory and the list.
-use Rattle.std.specs.Prelude.{◌≡◌, ℕ, ◌+◌, ◌*◌, ◌==◌, Bool, false, if◌then◌else◌, pos, List, [], ◌∷◌, length, drop, Option, Some, None, is_some, option_map, Result, Ok, Err}
-use Rattle.dd_geom.specs.declared.rect.Rect.{Rect}
-use Rattle.dd_geom.specs.declared.rect.Move.{Move}
-use Rattle.dd_dup.specs.declared.frame.Frame.{Frame}
-use Rattle.dd_dup.specs.declared.frame.News.{News}
-use Rattle.dd_grid.specs.Drawing.{any_hidden}
+use Rattle.std.specs.Prelude.{◌≡◌, ℕ, Bool, false, if◌then◌else◌, List, length, Option, Some, None, is_some, option_map, Result, Ok, Err, is_ok, IsOk}
+use Rattle.std.specs.Option.{ok_or}
 use Rattle.dd_geom.specs.Grid.{rows}
-use Rattle.dd_bits.specs.CanonicalList.{canonical_list}
-use Rattle.dd_acc.specs.Effects.{dirt, is_coalesced, moves}
-use Rattle.dd_log.specs.declared.events.Entry.{Entry}
-use Rattle.dd_log.specs.declared.events.Event.{Event}
-use Rattle.dd_log.specs.declared.events.Event.TheVariants.{Opened}
-use Rattle.dd_log.specs.declared.events.Event.TheVariants as events
+use Rattle.dd_log.specs.declared.answers.Answer.{Answer}
+use Rattle.dd_log.specs.declared.answers.Answer.TheVariants as answers
 use Rattle.dd_log.specs.declared.answers.FrameInfo.{FrameInfo}
 use Rattle.dd_log.specs.declared.answers.DupRefusal.{DupRefusal}
 use Rattle.dd_log.specs.declared.answers.DupRefusal.TheVariants.{InvalidCall, WaitTimeout, OutOfMemory}
-use Rattle.dd_log.specs.History.{History, mode_of, first_entries}
-use Rattle.dd_log.specs.Desk.{presents, picture, view}
+use Rattle.dd_log.specs.History.{History, first_entries}
+use Rattle.dd_log.specs.Picture.{presents, view}
+use Rattle.dd_dup.specs.declared.calls.DupCall.{DupCall}
+use Rattle.dd_dup.specs.declared.calls.DupCall.TheVariants as calls
+use Rattle.dd_dup.specs.declared.frame.Frame.{Frame}
+use Rattle.dd_dup.specs.declared.frame.News.{News}
+use Rattle.dd_dup.specs.News.{news, frame, where_any}
 
 -- What a duplicator remembers: its opening place, its picture mark, and the frame that it holds.
 pub record Memory : Type 0 where
@@ -29,65 +26,19 @@ abbrev pub picture_start : History → ℕ
 picture_start h = 0
 
 -- of a duplicator opened at a place
-abbrev pub fresh : History → ℕ → Memory
-fresh h place = record { opened = place; mark = picture_start h; held = None }
+abbrev pub fresh_memory : History → ℕ → Memory
+fresh_memory h place = record { opened = place; mark = picture_start h; held = None }
 
--- the event number of the last present, where the first of the entries stands at a place; or else `last`
-abbrev pub number_after : ℕ → ℕ → Event → ℕ
-number_after last place (events.Draw d) = place + 1
-number_after last place (Opened slot app) = last
+-- with a frame of all entries up to a mark, and without a frame
+abbrev pub with_frame : Memory → ℕ → Frame → Memory
+with_frame m mark f = record m { mark = mark; held = Some f }
 
-abbrev pub last_present : ℕ → ℕ → List Entry → ℕ
-last_present last place [] = last
-last_present last place (e ∷ es) = last_present (number_after last place e.event) (place + 1) es
-
--- the entries from a mark on
-abbrev pub news : History → ℕ → List Entry
-news h mark = drop mark h.entries
-
--- the moves of some entries, and their dirty rectangles on a surface of this size
-abbrev pub moves_of : List Entry → List Move
-moves_of es = moves (presents es)
-
-unfoldable pub dirt_of : ℕ → ℕ → List Entry → List Rect
-dirt_of w h es = canonical_list (dirt w h (presents es))
-
--- what some entries tell, where the first of them stands at a place
-unfoldable pub news_of : ℕ → ℕ → ℕ → List Entry → News
-news_of w h place es = record {
-  accumulated = length (presents es);
-  last_present = last_present 0 place es;
-  coalesced = is_coalesced w h (presents es);
-  moves = moves_of es;
-  dirt = dirt_of w h es;
-}
-
--- a frame of what is new, and of whether some point of the desk is hidden: no event tells a pointer yet
-abbrev pub info_from : News → Bool → FrameInfo
-info_from n protected = record {
-  last_present = n.last_present;
-  last_mouse = 0;
-  accumulated = n.accumulated;
-  coalesced = n.coalesced;
-  protected = protected;
-  pointer = record { position = record { x = pos 0; y = pos 0 }; visible = false };
-  meta_size = 24 * length n.moves + 16 * length n.dirt;
-  shape_size = 0;
-}
-
-abbrev pub frame_from : News → Bool → Frame
-frame_from n protected = record { info = info_from n protected; moves = n.moves; dirt = n.dirt }
-
--- what is new from a mark on, and the frame of this interval
-abbrev pub news_since : History → ℕ → News
-news_since h mark = news_of (mode_of h).width (mode_of h).height mark (news h mark)
-
-abbrev pub frame : History → ℕ → Frame
-frame h mark = frame_from (news_since h mark) (any_hidden (picture h))
+abbrev pub without_frame : Memory → Memory
+without_frame m = record m { held = None }
 
 -- the first cause that refuses an acquire, or what it is given
 abbrev pub granted : {A : Type 0} → Memory → History → A → Result A DupRefusal
-granted m h given = if is_some m.held then Err InvalidCall else (if length (presents (news h m.mark)) == 0 then Err WaitTimeout else Ok given)
+granted m h given = if is_some m.held then Err InvalidCall else ok_or (where_any (presents (news h m.mark)) given) WaitTimeout
 
 -- the answer to an acquire
 abbrev pub acquire_reply : Memory → History → Result Frame DupRefusal
@@ -95,38 +46,53 @@ acquire_reply m h = granted m h (frame h m.mark)
 
 -- and the memory after an answer
 abbrev pub memory_after : Memory → History → Result Frame DupRefusal → Memory
-memory_after m h (Ok f) = record { opened = m.opened; mark = length h.entries; held = Some f }
+memory_after m h (Ok f) = with_frame m (length h.entries) f
 memory_after m h (Err cause) = m
-
--- what is told of an acquired frame
-abbrev pub told : Result Frame DupRefusal → Result FrameInfo DupRefusal
-told (Ok f) = Ok f.info
-told (Err cause) = Err cause
 
 abbrev pub acquire_memory : Memory → History → Memory
 acquire_memory m h = memory_after m h (acquire_reply m h)
 
--- the answer to a release, and the memory after it
+-- the answer to a release: after it no frame is held
 abbrev pub release_reply : Memory → Result (Unit {0}) DupRefusal
 release_reply m = if is_some m.held then Ok tt else Err InvalidCall
-
-abbrev pub release_memory : Memory → Memory
-release_memory m = record { opened = m.opened; mark = m.mark; held = None }
 
 -- the rows of the acquired surface
 abbrev pub surface_reply : Memory → History → Option (List (List ℕ))
 surface_reply m h = option_map (λ f. rows (view (first_entries m.mark h))) m.held
 
--- The answer to an acquire and the memory after it are those of the reply, unless memory is wanting.
-abbrev pub Answers : Result FrameInfo DupRefusal → Memory → Memory → History → Type 0
-Answers (Err OutOfMemory) old new h = Unit {0}
-Answers (Err InvalidCall) old new h = (Err InvalidCall ≡ told (acquire_reply old h)) × (new ≡ acquire_memory old h)
-Answers (Err WaitTimeout) old new h = (Err WaitTimeout ≡ told (acquire_reply old h)) × (new ≡ acquire_memory old h)
-Answers (Ok info) old new h = (Ok info ≡ told (acquire_reply old h)) × (new ≡ acquire_memory old h)
+-- the info of a frame
+abbrev pub told_info : Result Frame DupRefusal → Result FrameInfo DupRefusal
+told_info (Ok f) = Ok f.info
+told_info (Err cause) = Err cause
 
--- What is new is that of the reply, unless memory is wanting.
-abbrev pub Gives : Result News DupRefusal → Result News DupRefusal → Type 0
-Gives (Err OutOfMemory) reply = Unit {0}
-Gives (Err InvalidCall) reply = reply ≡ Err InvalidCall
-Gives (Err WaitTimeout) reply = reply ≡ Err WaitTimeout
-Gives (Ok n) reply = reply ≡ Ok n
+-- a frame and a release as answers
+abbrev pub acquire_answer : Result Frame DupRefusal → Answer
+acquire_answer (Ok f) = answers.Frame f.info f.moves f.dirt
+acquire_answer (Err cause) = answers.Refused cause None
+
+abbrev pub release_answer : Result (Unit {0}) DupRefusal → Answer
+release_answer (Ok x) = answers.Released
+release_answer (Err cause) = answers.Refused cause None
+
+-- the answer to a call, and the memory after it
+abbrev pub reply : DupCall → Memory → History → Answer × Memory
+reply calls.Acquire m h = (acquire_answer (acquire_reply m h), acquire_memory m h)
+reply calls.Release m h = (release_answer (release_reply m), without_frame m)
+reply calls.Surface m h = (answers.Surface (surface_reply m h), m)
+
+-- whether a call takes memory: for a frame that is granted, and for rows
+abbrev pub takes_memory : DupCall → Memory → History → Bool
+takes_memory calls.Acquire m h = is_ok (acquire_reply m h)
+takes_memory calls.Release m h = false
+takes_memory calls.Surface m h = is_some m.held
+
+-- The answer to an acquire and the memory after it are those of the reply. Or memory is wanting, for a frame that is
+-- granted.
+abbrev pub Answers : Result FrameInfo DupRefusal → Memory → Memory → History → Type 0
+Answers (Err OutOfMemory) old new h = IsOk (acquire_reply old h)
+Answers answer old new h = (answer ≡ told_info (acquire_reply old h)) × (new ≡ acquire_memory old h)
+
+-- What is new is that of the reply. Or memory is wanting, for news that are granted.
+abbrev pub IsNewsOr : Result News DupRefusal → Result News DupRefusal → Type 0
+IsNewsOr (Err OutOfMemory) reply = IsOk reply
+IsNewsOr answer reply = reply ≡ answer

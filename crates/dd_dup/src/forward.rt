@@ -1,22 +1,19 @@
 //! A picture and a surface brought forward by the entries that are new.
 
-ghost use Rattle.std.specs.Prelude.{◌≡◌, ◌≤◌, IsTrue, IfOk, All, length};
-ghost use Rattle.dd_geom.specs.Rect.{IsSize, is_inside, is_move_inside};
+ghost use Rattle.std.specs.Prelude.{◌≡◌, ◌≤◌, IsTrue, All, length};
+ghost use Rattle.dd_geom.specs.Rect.{is_inside, is_move_inside};
 ghost use Rattle.dd_grid.specs.Drawing.{seen};
-ghost use Rattle.dd_acc.specs.Rebuild.{all_moved, rebuild};
-ghost use Rattle.dd_dup.specs.Reply.{moves_of, dirt_of};
-ghost use Rattle.dd_log.specs.History.{event_fits, entries_fit};
-ghost use Rattle.dd_log.specs.Desk.{shown_after, shown, presents};
-ghost use Rattle.dd_log.specs.declared.events.TheConstants.{MAX_CAPACITY};
-ghost use Rattle.dd_dup.specs.Forward.{with_event, accumulated, copied_each};
+ghost use Rattle.dd_acc.specs.Rebuild.{all_moved};
+ghost use Rattle.dd_log.specs.History.{event_fits, entries_fit, first_entries};
+ghost use Rattle.dd_log.specs.Picture.{shown_after, shown, picture as picture_of, view as view_of};
+ghost use Rattle.dd_dup.specs.News.{moves_of, dirt_of, news_since};
+ghost use Rattle.dd_dup.specs.Walk.{copied_each};
 
-use dd_acc::Acc;
-use dd_bits::Plane;
+use crate::frame::News;
 use dd_geom::{Move, Rect};
 use dd_grid::{Picture, Surface};
-use dd_log::{Draw, Entry, Event};
+use dd_log::{Entry, Event, Log};
 use dd_ops::apply;
-use std::alloc::{AllocError, Global};
 
 /// Draws what an event draws.
 fn draw_event(picture: &mut Picture, event: &Event)
@@ -25,14 +22,14 @@ fn draw_event(picture: &mut Picture, event: &Event)
     ensures width { picture.new.width ≡ picture.old.width }
     ensures height { picture.new.height ≡ picture.old.height }
 {
-    match event {
-        Event::Draw(Draw::Present(ops)) => apply(picture, ops),
-        Event::Opened { .. } => {}
+    match event.present() {
+        None => {}
+        Some(ops) => apply(picture, ops),
     }
 }
 
 /// Draws what the entries draw, in order.
-pub(crate) fn draw_entries(picture: &mut Picture, entries: &[Entry])
+fn draw_entries(picture: &mut Picture, entries: &[Entry])
     requires { IsTrue (entries_fit picture.old.width picture.old.height entries.now) }
     ensures drawn { picture.new ≡ shown picture.old entries.now }
     ensures width { picture.new.width ≡ picture.old.width }
@@ -43,39 +40,8 @@ pub(crate) fn draw_entries(picture: &mut Picture, entries: &[Entry])
     }
 }
 
-/// Accumulates what an event draws.
-fn add_event(acc: Acc<Plane>, event: &Event) -> Result<Acc<Plane>, AllocError>
-    requires fit { IsTrue (event_fits acc.area.width acc.area.height event.now) }
-    requires few { acc.frames ≤ MAX_CAPACITY }
-    ensures { IfOk result (λ next. next ≡ with_event acc event.now) }
-{
-    match event {
-        Event::Draw(Draw::Present(ops)) => acc.add(ops),
-        Event::Opened { .. } => Ok(acc),
-    }
-}
-
-/// Accumulates what the entries draw on a surface of `w` by `h` points.
-pub(crate) fn gather(
-    alloc: Global,
-    w: u32,
-    h: u32,
-    entries: &[Entry],
-) -> Result<Acc<Plane>, AllocError>
-    requires size { IsSize w h }
-    requires fit { IsTrue (entries_fit w h entries.now) }
-    requires few { length entries.now ≤ MAX_CAPACITY }
-    ensures { IfOk result (λ acc. acc ≡ accumulated w h entries.now) }
-{
-    let mut acc = Acc::start(alloc, w, h)?;
-    for entry in entries {
-        acc = add_event(acc, &entry.event)?;
-    }
-    Ok(acc)
-}
-
 /// Draws moves on a surface, in order.
-pub(crate) fn move_all(surface: &mut Surface, moves: &[Move])
+fn move_all(surface: &mut Surface, moves: &[Move])
     requires { All (λ m. IsTrue (is_move_inside m surface.old.width surface.old.height)) moves.now }
     ensures moved { surface.new ≡ all_moved surface.old moves.now }
     ensures width { surface.new.width ≡ surface.old.width }
@@ -87,7 +53,7 @@ pub(crate) fn move_all(surface: &mut Surface, moves: &[Move])
 }
 
 /// Copies what is seen of the picture in the dirty rectangles.
-pub(crate) fn copy_dirt(surface: &mut Surface, rects: &[Rect], picture: &Picture)
+fn copy_dirt(surface: &mut Surface, rects: &[Rect], picture: &Picture)
     requires inside { All (λ r. IsTrue (is_inside r surface.old.width surface.old.height)) rects.now }
     requires width { picture.now.width ≡ surface.old.width }
     requires height { picture.now.height ≡ surface.old.height }
@@ -103,7 +69,7 @@ pub(crate) fn copy_dirt(surface: &mut Surface, rects: &[Rect], picture: &Picture
 /// Brings a picture, and the surface of what is seen of it, forward by the entries that are new.
 ///
 /// `moves` and `rects` are the moves and the dirty rectangles of these entries. It takes no memory.
-pub(crate) fn advance(
+fn advance(
     picture: &mut Picture,
     surface: &mut Surface,
     entries: &[Entry],
@@ -116,9 +82,33 @@ pub(crate) fn advance(
     requires dirt { rects.now ≡ dirt_of picture.old.width picture.old.height entries.now }
     ensures picture { picture.new ≡ shown picture.old entries.now }
     ensures surface { surface.new ≡ seen (shown picture.old entries.now) }
-    ensures rebuilt { rebuild surface.old moves.now rects.now surface.new ≡ surface.new }
 {
     draw_entries(picture, entries);
     move_all(surface, moves);
     copy_dirt(surface, rects, picture);
+}
+
+/// Brings the picture and the surface of a mark forward to the end of the list, by what is new since
+/// that mark. It takes no memory.
+pub(crate) fn catch_up(
+    picture: &mut Picture,
+    surface: &mut Surface,
+    log: &Log,
+    mark: u64,
+    next: &News,
+)
+    requires marked { mark ≤ length log.now.entries }
+    requires picture { picture.old ≡ picture_of (first_entries mark log.now) }
+    requires surface { surface.old ≡ view_of (first_entries mark log.now) }
+    requires next { next.now ≡ news_since log.now mark }
+    ensures picture { picture.new ≡ picture_of log.now }
+    ensures surface { surface.new ≡ view_of log.now }
+{
+    advance(
+        picture,
+        surface,
+        log.after(mark),
+        next.moves.as_slice(),
+        next.dirt.as_slice(),
+    );
 }

@@ -1,7 +1,19 @@
 //! What an acquired frame tells.
 
+ghost use Rattle.std.specs.Prelude.{◌≡◌, ◌+◌, ◌*◌, ◌≤◌, length};
+ghost use Rattle.dd_coal.specs.declared.coalescing.TheConstants.{MAX_RECTS};
+ghost use Rattle.dd_acc.specs.declared.interval.TheConstants.{MAX_MOVES};
+ghost use Rattle.dd_dup.specs.News.{frame_from};
+
 use dd_acc::{FrameMoves, FrameRects};
-use dd_log::FrameInfo;
+use dd_geom::{Move, Point, Rect};
+use dd_log::{FrameInfo, Pointer};
+
+/// The bytes of a dirty rectangle among the metadata (RECT).
+const RECT_BYTES: u32 = 16;
+
+/// The bytes of a move among the metadata (DXGI_OUTDUPL_MOVE_RECT).
+const MOVE_BYTES: u32 = 24;
 
 /// What is new since a duplicator's mark.
 #[derive(Debug, Drop)]
@@ -22,4 +34,38 @@ pub struct Frame {
     pub info: FrameInfo,
     pub moves: FrameMoves,
     pub dirt: FrameRects,
+}
+
+/// The bytes of the metadata of a frame with these moves and dirty rectangles.
+fn metadata_of(moves: &[Move], dirt: &[Rect]) -> u32
+    requires moves { length moves.now ≤ MAX_MOVES }
+    requires dirt { length dirt.now ≤ MAX_RECTS }
+    ensures { result ≡ 24 * length moves.now + 16 * length dirt.now }
+{
+    MOVE_BYTES * moves.len() as u32 + RECT_BYTES * dirt.len() as u32
+}
+
+/// The frame of what is new; `protected` says whether some point is hidden.
+pub(crate) fn frame_of(news: News, protected: bool) -> Frame
+    ensures { result ≡ frame_from news protected }
+{
+    let meta_size = metadata_of(news.moves.as_slice(), news.dirt.as_slice());
+    let info = FrameInfo {
+        last_present: news.last_present,
+        last_mouse: 0,
+        accumulated: news.accumulated,
+        coalesced: news.coalesced,
+        protected,
+        pointer: Pointer {
+            position: Point { x: 0, y: 0 },
+            visible: false,
+        },
+        meta_size,
+        shape_size: 0,
+    };
+    Frame {
+        info,
+        moves: news.moves,
+        dirt: news.dirt,
+    }
 }

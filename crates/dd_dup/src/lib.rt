@@ -1,12 +1,14 @@
 //! One duplicator: it acquires frames of the list at its own pace.
 #![tactic(auto)]
 
-mod counting;
+mod calls;
 mod duplicator;
 mod forward;
 mod frame;
 mod laws;
+mod news;
 
+pub use calls::DupCall;
 pub use dd_log::{DupRefusal, FrameInfo, Pointer};
 pub use duplicator::Dup;
 pub use frame::{Frame, News};

@@ -11,8 +11,11 @@ use Rattle.dd_log.specs.declared.events.Event.{Event}
 use Rattle.dd_log.specs.declared.events.Event.TheVariants.{Opened}
 use Rattle.dd_log.specs.declared.events.Event.TheVariants as events
 use Rattle.dd_log.specs.declared.events.Draw.TheVariants.{Present}
-use Rattle.dd_log.specs.History.{History, begun, slots, allowed, refusal, legal, may_add}
-use Rattle.dd_log.specs.Desk.{picture, view, presents}
+use Rattle.dd_log.specs.declared.events.TheConstants.{MAX_ACTORS, MAX_CAPACITY, MAX_PRIVILEGED}
+use Rattle.dd_log.specs.declared.desk.TheConstants.{MAX_DUPLICATORS}
+use Rattle.dd_log.specs.Desk.{desk}
+use Rattle.dd_log.specs.History.{History, begun, allowed, refusal, legal, may_add, opens_at}
+use Rattle.dd_log.specs.Picture.{picture, view, presents}
 
 abbrev rect : ℕ → ℕ → ℕ → ℕ → Rect
 rect l t r b = record { left = pos l; top = pos t; right = pos r; bottom = pos b }
@@ -57,7 +60,7 @@ taken_slot : legal (lists (opening ∷ entry 1 2 (Opened 0 8) ∷ [])) ≡ false
 unfolding legal may_add
 taken_slot = refl
 
-slots_then : slots (opening ∷ drawing ∷ []) ≡ Some 7 ∷ None ∷ None ∷ None ∷ []
+slots_then : (desk (opening ∷ drawing ∷ [])).slots ≡ Some 7 ∷ None ∷ None ∷ None ∷ []
 slots_then = refl
 
 -- a full list says so first, whatever is drawn
@@ -85,3 +88,26 @@ seen_rows = refl
 drawn_presents : presents (opening ∷ drawing ∷ []) ≡ (Fill (rect 1 1 3 2) 16711680 ∷ []) ∷ []
 unfolding presents
 drawn_presents = refl
+
+-- the first entry opens a duplicator, the second doesn't, and there is no third
+opens_first : opens_at (lists (opening ∷ drawing ∷ [])) 0 ≡ true
+opens_first = refl
+
+opens_no_drawing : opens_at (lists (opening ∷ drawing ∷ [])) 1 ≡ false
+opens_no_drawing = refl
+
+opens_no_third : opens_at (lists (opening ∷ drawing ∷ [])) 2 ≡ false
+opens_no_third = refl
+
+-- the limits
+most_actors : MAX_ACTORS ≡ 64
+most_actors = refl
+
+most_entries : MAX_CAPACITY ≡ 1048576
+most_entries = refl
+
+most_duplicators : MAX_DUPLICATORS ≡ 4
+most_duplicators = refl
+
+most_privileged : MAX_PRIVILEGED ≡ 16
+most_privileged = refl

@@ -5,7 +5,7 @@ use Rattle.std.specs.List.{list_all, position_or_len}
 use Rattle.std.specs.Prelude.{option_map}
 use Rattle.dd_modes.specs.Modes.{first_mode}
 use Rattle.dd_ops.specs.declared.operations.Op.{Op}
-use Rattle.dd_ops.specs.Operations.{fits, first_unfit}
+use Rattle.dd_ops.specs.Operations.{fits}
 use Rattle.dd_log.specs.declared.answers.LogRefusal.TheVariants.{Full, BadRect}
 use Rattle.std.proofs.lemmas.Bool.{and_parts, and_from, false≢true}
 use Rattle.std.proofs.lemmas.Option.{slice_get_within}
@@ -14,24 +14,24 @@ use borrow.Author.Tests.{ltb-true, lt-ltb, leb-false, ltb-false}
 use Rattle.dd_log.specs.declared.events.Entry.{Entry}
 use Rattle.dd_log.specs.declared.events.Event.{Event}
 use Rattle.dd_log.specs.declared.events.Event.TheVariants.{Opened}
-use Rattle.dd_log.specs.declared.events.Event.TheVariants as events
-use Rattle.dd_log.specs.declared.events.Draw.TheVariants.{Present}
 use Rattle.dd_log.specs.declared.events.Spec.{Spec}
 use Rattle.dd_log.specs.declared.events.TheConstants.{MAX_ACTORS}
 use Rattle.dd_log.specs.declared.answers.LogRefusal.{LogRefusal}
-use Rattle.dd_log.specs.History.{History, with_entry, mode_of, last_step, slots, slots_after, is_full, is_free, refusal, opens_freely, may_add, legal_after, legal, event_fits, entries_fit}
+use Rattle.dd_log.specs.declared.desk.Desk.{Desk}
+use Rattle.dd_log.specs.Desk.{desk, desk_after, is_free, opens_freely}
+use Rattle.dd_log.specs.History.{History, with_entry, desk_mode, last_step, present_of, is_full, bad_present, present_fits, refusal, may_add, legal_after, legal, event_fits, entries_fit}
 
 -- what the test of one entry more asks
 pub record MayAdd (h : History) (e : Entry) : Type 0 where
   pub actor : e.actor < MAX_ACTORS
   pub step : last_step h.entries e.actor < e.step
   pub allowed : is_none (refusal h e.event) ≡ true
-  pub opening : opens_freely (slots h.entries) e.event ≡ true
+  pub opening : opens_freely (desk h.entries) e.event ≡ true
 
 pub parts_of_may_add : (h : History) (e : Entry) → may_add h e ≡ true → MayAdd h e
 unfolding may_add
 parts_of_may_add h e t =
-    let c = and_parts _ (opens_freely (slots h.entries) e.event) t in
+    let c = and_parts _ (opens_freely (desk h.entries) e.event) t in
     let b = and_parts _ (is_none (refusal h e.event)) c.0 in
     let a = and_parts (nat_lt e.actor MAX_ACTORS) (nat_lt (last_step h.entries e.actor) e.step) b.0 in
     record { actor = ltb-true _ _ a.0; step = ltb-true _ _ a.1; allowed = b.1; opening = c.1 }
@@ -47,8 +47,7 @@ room_if true cause other h = absurd (false≢true h)
 room_if false cause other h = refl
 
 pub not_full : (h : History) (e : Event) → is_none (refusal h e) ≡ true → is_full h ≡ false
-not_full h (events.Draw (Present ops)) n = room_if (is_full h) _ _ n
-not_full h (Opened slot app) n = room_if (is_full h) _ _ n
+not_full h e n = room_if (is_full h) Full (bad_present (desk_mode h).width (desk_mode h).height (present_of e)) n
 
 pub room_for : (h : History) (e : Event) → is_none (refusal h e) ≡ true → length h.entries + 1 < h.spec.capacity
 room_for h e n = leb-false _ _ (not_full h e n)
@@ -58,8 +57,8 @@ free_within : (slots : List (Option ℕ)) (slot : ℕ) (found : Option (Option �
 free_within slots slot None is t = absurd (false≢true t)
 free_within slots slot (Some found) is t = slice_get_within slots slot found is
 
-pub opening_within : (slots : List (Option ℕ)) (slot app : ℕ) → opens_freely slots (Opened slot app) ≡ true → slot < length slots
-opening_within slots slot app t = free_within slots slot _ refl (and_parts (is_free (slice_get slots slot)) _ t).0
+pub opening_within : (d : Desk) (slot app : ℕ) → opens_freely d (Opened slot app) ≡ true → slot < length d.slots
+opening_within d slot app t = free_within d.slots slot _ refl (and_parts (is_free (slice_get d.slots slot)) _ t).0
 
 -- a list is legal where its front is, and what follows is legal after it
 and_assoc : (a b c : Bool) → (a && (b && c)) ≡ ((a && b) && c)
@@ -80,8 +79,8 @@ legal-with_entry h e t may =
     legal_after-append h.spec [] h.entries (e ∷ [])
     ∙ and_from _ _ t (and_from _ _ may refl)
 
-pub slots-with_entry : (h : History) (e : Entry) → slots (with_entry h e).entries ≡ slots_after (slots h.entries) e
-slots-with_entry h e = fold_push slots_after _ h.entries e
+pub desk-with_entry : (h : History) (e : Entry) → desk (with_entry h e).entries ≡ desk_after (desk h.entries) e.event
+desk-with_entry h e = fold_push (λ d x. desk_after d x.event) _ h.entries e
 
 -- a list none of whose elements fails has all of them pass
 fits_here : {A : Type 0} (p : A → Bool) (x : A) (xs : List A) (n : ℕ) (b : Bool) → p x ≡ b → (length xs ≤ n → list_all p xs ≡ true) → length (x ∷ xs) ≤ cond (not (not (p x))) (1 + n) 0 → list_all p (x ∷ xs) ≡ true
@@ -101,13 +100,17 @@ other_none true cause other h = absurd (false≢true h)
 other_none false cause other h = h
 
 -- what isn't refused fits the mode
-pub fits_mode : (h : History) (e : Event) → is_none (refusal h e) ≡ true → event_fits (mode_of h).width (mode_of h).height e ≡ true
-fits_mode h (events.Draw (Present ops)) n =
-    let fits_it : Op → Bool = fits (mode_of h).width (mode_of h).height in
-    let o = other_none (is_full h) Full (option_map BadRect (first_unfit (mode_of h).width (mode_of h).height ops)) n in
-    let t = none_only (nat_lt (position_or_len (λ op. not (fits_it op)) ops) (length ops)) (position_or_len (λ op. not (fits_it op)) ops) o in
-    all_pass fits_it ops (ltb-false _ _ t)
-fits_mode h (Opened slot app) n = refl
+present_fits_mode : (w h : ℕ) (present : Option (List Op)) → is_none (bad_present w h present) ≡ true → present_fits w h present ≡ true
+present_fits_mode w h None n = refl
+present_fits_mode w h (Some ops) n =
+    let fits_it : Op → Bool = fits w h in
+    let first = position_or_len (λ op. not (fits_it op)) ops in
+    all_pass fits_it ops (ltb-false _ _ (none_only (nat_lt first (length ops)) first n))
+
+pub fits_mode : (h : History) (e : Event) → is_none (refusal h e) ≡ true → event_fits (desk_mode h).width (desk_mode h).height e ≡ true
+fits_mode h e n =
+    present_fits_mode (desk_mode h).width (desk_mode h).height (present_of e)
+    (other_none (is_full h) Full (bad_present (desk_mode h).width (desk_mode h).height (present_of e)) n)
 
 -- each entry of a legal list fits the mode
 fit_after : (spec : Spec) (before es : List Entry) → legal_after spec before es ≡ true → list_all (λ e. event_fits (first_mode spec.modes).width (first_mode spec.modes).height e.event) es ≡ true
@@ -116,7 +119,7 @@ fit_after spec before (e ∷ es) t =
     let a = and_parts (may_add (record { spec = spec; entries = before }) e) (legal_after spec (before ++ e ∷ []) es) t in
     and_from _ _ (fits_mode (record { spec = spec; entries = before }) e.event (parts_of_may_add (record { spec = spec; entries = before }) e a.0).allowed) (fit_after spec (before ++ e ∷ []) es a.1)
 
-pub legal-fit : (h : History) → legal h ≡ true → entries_fit (mode_of h).width (mode_of h).height h.entries ≡ true
+pub legal-fit : (h : History) → legal h ≡ true → entries_fit (desk_mode h).width (desk_mode h).height h.entries ≡ true
 unfolding legal entries_fit
 legal-fit h t = fit_after h.spec [] h.entries t
 

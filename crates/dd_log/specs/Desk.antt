@@ -1,38 +1,38 @@
--- The desk: what the entries of a list make of the picture.
-use Rattle.std.specs.Prelude.{ℕ, List, [], ◌∷◌, fold}
-use Rattle.std.specs.List.{flat_map}
-use Rattle.dd_geom.specs.Grid.{Grid}
-use Rattle.dd_grid.specs.Cell.{Cell}
-use Rattle.dd_grid.specs.Drawing.{black, seen}
-use Rattle.dd_ops.specs.declared.operations.Op.{Op}
-use Rattle.dd_ops.specs.Operations.{drawn}
+-- The desk beside its picture: what the entries of a list make of it.
+use Rattle.std.specs.Prelude.{ℕ, Bool, true, false, ◌&&◌, not, ◌==◌, List, fold, replicate, slice_get, slice_set, Option, Some, None}
+use Rattle.std.specs.List.{list_any}
+use Rattle.dd_log.specs.declared.desk.Desk.{Desk}
+use Rattle.dd_log.specs.declared.desk.TheConstants.{MAX_DUPLICATORS}
 use Rattle.dd_log.specs.declared.events.Entry.{Entry}
 use Rattle.dd_log.specs.declared.events.Event.{Event}
 use Rattle.dd_log.specs.declared.events.Event.TheVariants.{Opened}
 use Rattle.dd_log.specs.declared.events.Event.TheVariants as events
-use Rattle.dd_log.specs.declared.events.Draw.TheVariants.{Present}
-use Rattle.dd_log.specs.History.{History, mode_of}
 
--- the picture after one event more
-abbrev pub shown_after : Grid Cell → Event → Grid Cell
-shown_after p (events.Draw (Present ops)) = drawn p ops
-shown_after p (Opened slot app) = p
+-- of an empty list: each slot is free
+abbrev pub first_desk : Desk
+first_desk = record { slots = replicate MAX_DUPLICATORS None }
 
-abbrev pub shown : Grid Cell → List Entry → Grid Cell
-shown p es = fold (λ q e. shown_after q e.event) p es
+-- after one event more: an opening takes its slot for its application
+abbrev pub desk_after : Desk → Event → Desk
+desk_after d (events.Draw drawing) = d
+desk_after d (Opened slot app) = record d { slots = slice_set d.slots slot (Some app) }
 
--- the desk's picture: black at first, and then what each entry makes of it
-unfoldable pub picture : History → Grid Cell
-picture h = shown (black (mode_of h).width (mode_of h).height) h.entries
+-- after some entries
+abbrev pub desk : List Entry → Desk
+desk es = fold (λ d e. desk_after d e.event) first_desk es
 
--- what is seen of the desk, hidden points black
-abbrev pub view : History → Grid ℕ
-view h = seen (picture h)
+-- the slot is the application's
+abbrev pub is_app : ℕ → Option ℕ → Bool
+is_app app None = false
+is_app app (Some other) = other == app
 
--- the presents among some entries, in order
-abbrev pub present_of : Event → List (List Op)
-present_of (events.Draw (Present ops)) = ops ∷ []
-present_of (Opened slot app) = []
+-- a slot that is free
+abbrev pub is_free : Option (Option ℕ) → Bool
+is_free (Some None) = true
+is_free (Some (Some app)) = false
+is_free None = false
 
-unfoldable pub presents : List Entry → List (List Op)
-presents es = flat_map (λ e. present_of e.event) es
+-- an opening names a free slot, and an application without one
+abbrev pub opens_freely : Desk → Event → Bool
+opens_freely d (events.Draw drawing) = true
+opens_freely d (Opened slot app) = is_free (slice_get d.slots slot) && not (list_any (is_app app) d.slots)

@@ -1,3 +1,4 @@
-pub mod History
-pub mod Storage
 pub mod Desk
+pub mod History
+pub mod Log
+pub mod Picture

@@ -1,6 +1,7 @@
 //! The events of an output's list.
 
-ghost use Rattle.std.specs.Prelude.{◌≡◌, IfOk};
+ghost use Rattle.std.specs.Prelude.{◌≡◌, IfOk, option_map};
+ghost use Rattle.dd_log.specs.History.{present_of};
 
 use crate::lists::Apps;
 use dd_modes::Modes;
@@ -12,6 +13,9 @@ pub const MAX_ACTORS: u32 = 64;
 
 /// The most entries of a list.
 pub const MAX_CAPACITY: u32 = 1_048_576;
+
+/// The most applications that may duplicate a secure desktop.
+pub const MAX_PRIVILEGED: usize = 16;
 
 /// What an output is begun with.
 #[derive(Debug, Drop)]
@@ -49,6 +53,18 @@ pub enum Event {
     Draw(Draw),
     /// A duplicator was opened in a slot, 0 to 3, for an application.
     Opened { slot: u32, app: u32 },
+}
+
+impl Event {
+    /// The operations of a present; none for any other event.
+    pub fn present(&self) -> Option<&Ops>
+        ensures { option_map (λ ops. ops.now) result ≡ present_of self.now }
+    {
+        match self {
+            Event::Draw(Draw::Present(ops)) => Some(ops),
+            Event::Opened { .. } => None,
+        }
+    }
 }
 
 /// One entry of the list: whose step it is, and what happened.

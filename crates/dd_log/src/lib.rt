@@ -2,13 +2,15 @@
 #![tactic(auto)]
 
 mod answers;
+mod desk;
 mod events;
 mod lists;
-mod storage;
+mod log;
 #[cfg(test)]
 mod tests;
 
 pub use answers::{Answer, DupRefusal, FrameInfo, LogRefusal, OpenRefusal, Pointer};
-pub use events::{Draw, Entry, Event, MAX_ACTORS, MAX_CAPACITY, Spec};
+pub use desk::{Desk, MAX_DUPLICATORS};
+pub use events::{Draw, Entry, Event, MAX_ACTORS, MAX_CAPACITY, MAX_PRIVILEGED, Spec};
 pub use lists::{Apps, Rows};
-pub use storage::{Log, MAX_DUPLICATORS};
+pub use log::Log;

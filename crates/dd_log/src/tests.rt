@@ -158,10 +158,12 @@ fn entries_are_read(rt: HostRuntime) -> Result<(), Fail> {
 }
 
 #[test]
-fn drawings_are_copied(rt: HostRuntime) -> Result<(), Fail> {
+fn a_present_lends_its_operations(rt: HostRuntime) -> Result<(), Fail> {
     let draw = Draw::Present(fills(rt.alloc(), &[INSIDE, OUTSIDE])?);
-    match draw.copy()? {
-        Draw::Present(ops) => assert_eq!(rt; ops.as_slice().len(), 2),
+    let present = Event::Draw(draw.copy()?);
+    let opening = Event::Opened { slot: 0, app: 7 };
+    for (event, count) in [(&present, Some(2)), (&opening, None)] {
+        assert_eq!(rt; event.present().map(|ops| ops.as_slice().len()), count);
     }
     Ok(())
 }

@@ -8,5 +8,6 @@ mod steps;
 #[cfg(test)]
 mod tests;
 
+pub use dd_log::Answer;
 pub use station::Station;
 pub use steps::{ClientCall, MAX_CLIENTS, Script, Step, Steps};

@@ -1,8 +1,9 @@
 //! The opening of a duplicator.
 
-ghost use Rattle.std.specs.Prelude.{◌≡◌, ◌<◌, IfOk, OnErr};
+ghost use Rattle.std.specs.Prelude.{◌≡◌, ◌<◌, IsOk, IfOk, OnErr};
 ghost use Rattle.dd_log.specs.History.{last_step};
 ghost use Rattle.dd_log.specs.declared.events.TheConstants.{MAX_ACTORS};
+ghost use Rattle.dd_table.specs.Opening.{opening as opening_of};
 ghost use Rattle.dd_station.specs.Opening.{IsAttempt};
 
 use dd_dup::Dup;
@@ -16,8 +17,9 @@ pub enum Attempt {
     Made { entry: u64, slot: u32, dup: Dup },
     Refused(OpenRefusal),
 }
+
 /// Opens a duplicator for an application, where the list allows it. All memory is taken before the
-/// list changes.
+/// list changes, and a refusal takes none.
 pub(crate) fn open(
     alloc: Global,
     log: &mut Log,
@@ -29,6 +31,7 @@ pub(crate) fn open(
     requires step { last_step log.old.entries actor < step }
     ensures attempt { IfOk result (λ a. IsAttempt a log.old log.new app actor step) }
     ensures err { OnErr result (log.new ≡ log.old) }
+    ensures wants { OnErr result (IsOk (opening_of log.old app)) }
 {
     let slot = match may_open(log, app) {
         Ok(slot) => slot,

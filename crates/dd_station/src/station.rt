@@ -1,6 +1,6 @@
 //! A station: one output, its clients, and their steps one after another.
 
-ghost use Rattle.std.specs.Prelude.{◌≡◌, ◌+◌, ◌-◌, ◌^◌, ◌≤◌, ◌<◌, length, IfOk, OnOk, OnErr, replicate, None};
+ghost use Rattle.std.specs.Prelude.{◌≡◌, ◌+◌, ◌-◌, ◌^◌, ◌≤◌, ◌<◌, length, IsTrue, IsOk, IfOk, OnOk, OnErr, replicate, None};
 ghost use Rattle.dd_log.specs.History.{allowed, last_step};
 ghost use Rattle.dd_log.specs.declared.events.TheConstants.{MAX_CAPACITY};
 ghost use Rattle.dd_station.specs.declared.steps.TheConstants.{MAX_CLIENTS};
@@ -9,13 +9,18 @@ ghost use Rattle.dd_station.specs.Run.{draw_answer, draw_history};
 use crate::calls::answer_of;
 use crate::opening::{Attempt, open};
 use crate::steps::{ClientCall, MAX_CLIENTS, Step};
-use dd_dup::Dup;
+use dd_dup::{Dup, DupCall};
 use dd_log::{Answer, Draw, Entry, Event, Log, Spec};
 use std::alloc::{AllocError, Global};
 use std::marker::Model;
 
 /// One output with its clients. Contracts see the list, the clients' applications and memories,
 /// and the number of steps so far.
+///
+/// At all times there are at most 16 clients, and a place for the duplicator of each. Each
+/// duplicator that is there stands on the list: it was opened in it, its mark lies in it, and its
+/// picture and surface are the desk's at that mark. No entry of the list is of a later step than
+/// those so far.
 #[derive(Debug, Drop)]
 pub struct Station {
     alloc: Global,
@@ -68,7 +73,7 @@ fn none_of(alloc: Global, n: usize) -> Result<Vec<Option<Dup>>, AllocError>
 }
 
 impl Station {
-    ghost use Rattle.dd_station.specs.Run.{start, next, drew, called, looked, told, memory_of, opened_or, app_of, IsOfClient};
+    ghost use Rattle.dd_station.specs.Run.{start, next, draw_outcome, call_outcome, reply_outcome, client_reply, memory_of, opening_outcome, app_of, asks, takes_memory, client_takes_memory, asking_takes_memory, IsOfClient};
     ghost use Rattle.dd_table.specs.Opening.{opening};
 
     /// A station with an empty list and no duplicators; client k, from 1, has the k-th application.
@@ -92,8 +97,8 @@ impl Station {
 
     fn draw(&mut self, drawing: &Draw) -> Result<Answer, AllocError>
         requires { self.old.steps < 2 ^ 32 - 1 }
-        ensures answer { IfOk result (λ a. a ≡ (drew self.old drawing.now).0) }
-        ensures state { OnOk result (self.new ≡ (drew self.old drawing.now).1) }
+        ensures answer { IfOk result (λ a. a ≡ (draw_outcome self.old drawing.now).0) }
+        ensures state { OnOk result (self.new ≡ (draw_outcome self.old drawing.now).1) }
         ensures err { OnErr result (self.new ≡ self.old) }
     {
         let step = self.steps + 1;
@@ -106,9 +111,10 @@ impl Station {
         requires from { 1 ≤ client }
         requires to { client ≤ length self.old.clients }
         requires count { self.old.steps < 2 ^ 32 - 1 }
-        ensures answer { IfOk result (λ a. a ≡ (opened_or (opening self.old.history (app_of self.old client)) self.old client).0) }
-        ensures state { OnOk result (self.new ≡ (opened_or (opening self.old.history (app_of self.old client)) self.old client).1) }
+        ensures answer { IfOk result (λ a. a ≡ (opening_outcome (opening self.old.history (app_of self.old client)) self.old client).0) }
+        ensures state { OnOk result (self.new ≡ (opening_outcome (opening self.old.history (app_of self.old client)) self.old client).1) }
         ensures err { OnErr result (self.new ≡ self.old) }
+        ensures wants { OnErr result (IsOk (opening self.old.history (app_of self.old client))) }
     {
         let index = client as usize - 1;
         let app = self.clients[index];
@@ -124,29 +130,31 @@ impl Station {
         }
     }
 
-    fn ask(&mut self, client: u32, call: ClientCall) -> Result<Answer, AllocError>
+    fn ask(&mut self, client: u32, call: DupCall) -> Result<Answer, AllocError>
         requires from { 1 ≤ client }
         requires to { client ≤ length self.old.clients }
         requires count { self.old.steps < 2 ^ 32 - 1 }
-        ensures answer { IfOk result (λ a. a ≡ (looked self.old client (told call (memory_of self.old client) self.old.history)).0) }
-        ensures state { OnOk result (self.new ≡ (looked self.old client (told call (memory_of self.old client) self.old.history)).1) }
+        ensures answer { IfOk result (λ a. a ≡ (reply_outcome self.old client (client_reply call (memory_of self.old client) self.old.history)).0) }
+        ensures state { OnOk result (self.new ≡ (reply_outcome self.old client (client_reply call (memory_of self.old client) self.old.history)).1) }
         ensures err { OnErr result (self.new ≡ self.old) }
+        ensures wants { OnErr result (IsTrue (asking_takes_memory call (memory_of self.old client) self.old.history)) }
     {
         let index = client as usize - 1;
-        let answer = answer_of(self.alloc, &mut self.dups[index], &self.log, call)?;
+        let answer = answer_of(&mut self.dups[index], &self.log, call)?;
         self.steps += 1;
         Ok(answer)
     }
 
     /// Does one step, which is the next of the run. Want of memory changes nothing, and the step
-    /// isn't counted.
-    #[tactic(auto, unfolding(crate::specs::Run::next))]
+    /// isn't counted; it comes only where the step takes memory, which a release never does.
+    #[tactic(auto, unfolding(crate::specs::Run::next, crate::specs::Run::takes_memory))]
     pub fn step(&mut self, step: &Step) -> Result<Answer, AllocError>
         requires client { IsOfClient (length self.old.clients) step.now }
         requires count { self.old.steps < 2 ^ 32 - 1 }
         ensures answer { IfOk result (λ a. a ≡ (next self.old step.now).0) }
         ensures state { OnOk result (self.new ≡ (next self.old step.now).1) }
         ensures err { OnErr result (self.new ≡ self.old) }
+        ensures wants { OnErr result (IsTrue (takes_memory self.old step.now)) }
     {
         match step {
             Step::Draw(drawing) => self.draw(drawing),
@@ -158,15 +166,14 @@ impl Station {
         requires from { 1 ≤ client }
         requires to { client ≤ length self.old.clients }
         requires count { self.old.steps < 2 ^ 32 - 1 }
-        ensures answer { IfOk result (λ a. a ≡ (called self.old client call).0) }
-        ensures state { OnOk result (self.new ≡ (called self.old client call).1) }
+        ensures answer { IfOk result (λ a. a ≡ (call_outcome self.old client call).0) }
+        ensures state { OnOk result (self.new ≡ (call_outcome self.old client call).1) }
         ensures err { OnErr result (self.new ≡ self.old) }
+        ensures wants { OnErr result (IsTrue (client_takes_memory self.old client (asks call))) }
     {
-        match call {
-            ClientCall::Duplicate => self.duplicate(client),
-            ClientCall::Acquire { .. } => self.ask(client, call),
-            ClientCall::Release => self.ask(client, call),
-            ClientCall::Surface => self.ask(client, call),
+        match call.asks() {
+            None => self.duplicate(client),
+            Some(asked) => self.ask(client, asked),
         }
     }
 

@@ -1,7 +1,9 @@
 //! The steps of a script.
 
 ghost use Rattle.std.specs.Prelude.{◌≡◌};
+ghost use Rattle.dd_station.specs.Run.{asks as asked_by};
 
+use dd_dup::DupCall;
 use dd_log::{Apps, Draw, Spec};
 use std::marker::Model;
 
@@ -19,6 +21,20 @@ pub enum ClientCall {
     Release,
     /// Asks for the rows of the acquired surface.
     Surface,
+}
+
+impl ClientCall {
+    /// What it asks of the client's duplicator; an opening asks nothing.
+    pub fn asks(&self) -> Option<DupCall>
+        ensures { result ≡ asked_by self.now }
+    {
+        match self {
+            ClientCall::Duplicate => None,
+            ClientCall::Acquire { .. } => Some(DupCall::Acquire),
+            ClientCall::Release => Some(DupCall::Release),
+            ClientCall::Surface => Some(DupCall::Surface),
+        }
+    }
 }
 
 /// One step.

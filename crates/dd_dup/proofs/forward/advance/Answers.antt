@@ -5,7 +5,7 @@ use Rattle.dd_geom.specs.declared.rect.Move.{Move}
 use Rattle.dd_geom.specs.Rect.{is_inside, is_move_inside}
 use Rattle.dd_grid.specs.Drawing.{seen}
 use Rattle.dd_geom.specs.Grid.{Grid}
-use Rattle.dd_dup.proofs.Advance.{All-dirt_of, All-moves_of, copied_each-news, rebuild-advanced}
+use Rattle.dd_dup.proofs.Advance.{All-dirt_of, All-moves_of, copied_each-news}
 use Rattle.dd_dup.proofs.forward.advance.Goals as goal
 
 pub move_all-requires : goal.move_all-requires
@@ -36,19 +36,9 @@ copy_dirt-requires c =
       height = c.draw_entries.ensures.height ∙ sym high;
     }
 
-pub returns : goal.returns
-returns c =
-    let p = c.args.picture.now in
-    let s = c.args.surface.now in
-    let es = c.args.entries.now in
-    let surface_is =
+pub returns-clause-surface : goal.returns-clause-surface
+returns-clause-surface c =
     c.copy_dirt.ensures.copied
-    ∙ copied_each-news p c.draw_entries.new.picture s c.move_all.new.surface c.args.moves.now c.args.rects.now es c.requires.fit
-    c.requires.seen c.move_all.ensures.moved c.draw_entries.ensures.drawn c.requires.moves c.requires.dirt in
-    record {
-      picture = c.draw_entries.ensures.drawn;
-      surface = surface_is;
-      rebuilt =
-          rebuild-advanced p s c.copy_dirt.new.surface c.args.moves.now c.args.rects.now es c.requires.fit c.requires.seen
-          surface_is c.requires.moves c.requires.dirt;
-    }
+    ∙ copied_each-news c.args.picture.now c.draw_entries.new.picture c.args.surface.now c.move_all.new.surface
+    c.args.moves.now c.args.rects.now c.args.entries.now c.requires.fit c.requires.seen c.move_all.ensures.moved
+    c.draw_entries.ensures.drawn c.requires.moves c.requires.dirt

@@ -1,5 +1,5 @@
 use Rattle.std.proofs.Common.{◌≡◌, take}
-use Rattle.dd_dup.specs.Forward.{copied_each}
+use Rattle.dd_dup.specs.Walk.{copied_each}
 use Rattle.dd_dup.proofs.forward.copy_dirt.Given as goal
 
 abbrev pub invariant-loop-rect : goal.invariant-loop-rect

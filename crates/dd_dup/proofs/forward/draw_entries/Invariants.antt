@@ -1,5 +1,5 @@
 use Rattle.std.proofs.Common.{◌≡◌, take}
-use Rattle.dd_log.specs.Desk.{shown}
+use Rattle.dd_log.specs.Picture.{shown}
 use Rattle.dd_dup.proofs.forward.draw_entries.Given as goal
 
 abbrev pub invariant-loop-entry : goal.invariant-loop-entry

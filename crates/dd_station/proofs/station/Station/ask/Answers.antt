@@ -1,7 +1,7 @@
 use Rattle.std.proofs.Common.{◌≡◌, ℕ, ◌+◌, ◌-◌, ◌<◌, ◌≤◌, ◌∙◌, List, Option, length, sym, ap, arith}
 use Rattle.std.specs.Prelude.{slice_set}
 use Rattle.dd_dup.specs.Reply.{Memory}
-use Rattle.dd_station.specs.Run.{State, told, memory_of, with_memory, counted, looked}
+use Rattle.dd_station.specs.Run.{State, client_reply, memory_of, with_memory, one_step_on, reply_outcome}
 use Rattle.dd_station.specs.Station.{memories, state}
 use Rattle.dd_station.proofs.Kept.{memories-set, memories-get}
 use Rattle.dd_log.specs.History.{History}
@@ -19,5 +19,5 @@ returns-clause-state c =
     let i_in : i < length dups = omega (arith, same_clients, c.self.invariant.places, c.requires.from, c.requires.to) in
     ap (λ (ms : List (Option Memory)). looked_state log c.self.inside.clients.items ms (c.self.inside.steps + 1))
     (memories-set dups i c.answer_of.new.dup
-    ∙ ap (slice_set (memories dups) i) (c.in_ok-answer.ensures.memory ∙ ap (λ (m : Option Memory). (told c.args.call m log).1) (memories-get dups i c.index_mut.result.now i_in c.index_mut.ensures.value)))
-    ∙ ap (λ (s : State). (looked s c.args.client (told c.args.call (memory_of s c.args.client) s.history)).1) c.self.view_is
+    ∙ ap (slice_set (memories dups) i) (c.in_ok-answer.ensures.memory ∙ ap (λ (m : Option Memory). (client_reply c.args.call m log).1) (memories-get dups i c.index_mut.result.now i_in c.index_mut.ensures.value)))
+    ∙ ap (λ (s : State). (reply_outcome s c.args.client (client_reply c.args.call (memory_of s c.args.client) s.history)).1) c.self.view_is

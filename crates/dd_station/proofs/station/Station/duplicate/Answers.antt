@@ -7,11 +7,11 @@ use Rattle.dd_log.specs.declared.answers.Answer.TheVariants.{Opened}
 use Rattle.dd_log.specs.declared.answers.OpenRefusal.{OpenRefusal}
 use Rattle.dd_log.specs.History.{History, with_entry}
 use Rattle.dd_table.specs.Opening.{opening}
-use Rattle.dd_dup.specs.Reply.{Memory, fresh}
+use Rattle.dd_dup.specs.Reply.{Memory, fresh_memory}
 use Rattle.dd_dup.specs.Duplicator.{Duplicator}
 use Rattle.dd_station.specs.declared.opening.Attempt.{Attempt}
 use Rattle.dd_station.specs.Opening.{IsAttempt}
-use Rattle.dd_station.specs.Run.{State, opened_or, app_of}
+use Rattle.dd_station.specs.Run.{State, opening_outcome, app_of}
 use Rattle.dd_station.specs.Station.{memories, state, IsKept}
 use Rattle.dd_station.proofs.Kept.{kept_set, kept_entry, memories-set}
 use Rattle.dd_station.proofs.station.Station.duplicate.Goals as goal
@@ -23,8 +23,8 @@ with_memories h clients ms n = record { history = h; clients = clients; memories
 made : (h new : History) (clients : List ℕ) (dups : List (Option Duplicator)) (n k entry slot app : ℕ) (dup : Duplicator) → app ≡ app_of (state h clients dups n) k
     → IsAttempt (Attempt.Made entry slot dup) h new app k (n + 1)
     → (opening h (app_of (state h clients dups n) k) ≡ Ok slot)
-    × (Opened entry slot ≡ (opened_or (Ok slot) (state h clients dups n) k).0)
-    × (state new clients (slice_set dups (k - 1) (Some dup)) (n + 1) ≡ (opened_or (Ok slot) (state h clients dups n) k).1)
+    × (Opened entry slot ≡ (opening_outcome (Ok slot) (state h clients dups n) k).0)
+    × (state new clients (slice_set dups (k - 1) (Some dup)) (n + 1) ≡ (opening_outcome (Ok slot) (state h clients dups n) k).1)
 made h new clients dups n k entry slot app dup app_is a =
     let entry_for : ℕ → Entry = λ x. record { actor = k; step = n + 1; event = events.Opened slot x } in (
       ap (opening h) (sym app_is) ∙ a.0,
@@ -38,7 +38,7 @@ made h new clients dups n k entry slot app dup app_is a =
 refused : (h new : History) (clients : List ℕ) (dups : List (Option Duplicator)) (n k app : ℕ) (cause : OpenRefusal) → app ≡ app_of (state h clients dups n) k
     → IsAttempt (Attempt.Refused cause) h new app k (n + 1)
     → (opening h (app_of (state h clients dups n) k) ≡ Err cause)
-    × (state new clients dups (n + 1) ≡ (opened_or (Err cause) (state h clients dups n) k).1)
+    × (state new clients dups (n + 1) ≡ (opening_outcome (Err cause) (state h clients dups n) k).1)
 refused h new clients dups n k app cause app_is a = (
   ap (opening h) (sym app_is) ∙ a.0,
   ap (λ (g : History). state g clients dups (n + 1)) a.1,
@@ -73,8 +73,8 @@ returns-in-Made-clause-answer c =
     let i_in : k - 1 < length clients = omega (arith, same_clients, c.requires.from, c.requires.to) in
     let m = made h c.open.new.log clients dups n k c.in-Made.entry c.in-Made.slot c.index-app.result.now c.in-Made.dup (app_there clients (k - 1) c.index-app.result.now i_in c.index-app.ensures) a in
     m.1
-    ∙ ap (λ (r : Result ℕ OpenRefusal). (opened_or r (state h clients dups n) k).0) (sym m.0)
-    ∙ ap (λ (s : State). (opened_or (opening s.history (app_of s k)) s k).0) c.self.view_is
+    ∙ ap (λ (r : Result ℕ OpenRefusal). (opening_outcome r (state h clients dups n) k).0) (sym m.0)
+    ∙ ap (λ (s : State). (opening_outcome (opening s.history (app_of s k)) s k).0) c.self.view_is
 
 pub returns-in-Made-clause-state : goal.returns-in-Made-clause-state
 returns-in-Made-clause-state c =
@@ -88,8 +88,8 @@ returns-in-Made-clause-state c =
     let i_in : k - 1 < length clients = omega (arith, same_clients, c.requires.from, c.requires.to) in
     let m = made h c.open.new.log clients dups n k c.in-Made.entry c.in-Made.slot c.index-app.result.now c.in-Made.dup (app_there clients (k - 1) c.index-app.result.now i_in c.index-app.ensures) a in
     m.2
-    ∙ ap (λ (r : Result ℕ OpenRefusal). (opened_or r (state h clients dups n) k).1) (sym m.0)
-    ∙ ap (λ (s : State). (opened_or (opening s.history (app_of s k)) s k).1) c.self.view_is
+    ∙ ap (λ (r : Result ℕ OpenRefusal). (opening_outcome r (state h clients dups n) k).1) (sym m.0)
+    ∙ ap (λ (s : State). (opening_outcome (opening s.history (app_of s k)) s k).1) c.self.view_is
 
 pub returns-in-Refused-clause-answer : goal.returns-in-Refused-clause-answer
 returns-in-Refused-clause-answer c =
@@ -102,8 +102,8 @@ returns-in-Refused-clause-answer c =
     let same_clients : length clients ≡ length c.args.self.now.clients = ap (λ (s : State). length s.clients) c.self.view_is in
     let i_in : k - 1 < length clients = omega (arith, same_clients, c.requires.from, c.requires.to) in
     let m = refused h c.open.new.log clients dups n k c.index-app.result.now c.in-Refused.cause (app_there clients (k - 1) c.index-app.result.now i_in c.index-app.ensures) a in
-    ap (λ (r : Result ℕ OpenRefusal). (opened_or r (state h clients dups n) k).0) (sym m.0)
-    ∙ ap (λ (s : State). (opened_or (opening s.history (app_of s k)) s k).0) c.self.view_is
+    ap (λ (r : Result ℕ OpenRefusal). (opening_outcome r (state h clients dups n) k).0) (sym m.0)
+    ∙ ap (λ (s : State). (opening_outcome (opening s.history (app_of s k)) s k).0) c.self.view_is
 
 pub returns-in-Refused-clause-state : goal.returns-in-Refused-clause-state
 returns-in-Refused-clause-state c =
@@ -117,5 +117,5 @@ returns-in-Refused-clause-state c =
     let i_in : k - 1 < length clients = omega (arith, same_clients, c.requires.from, c.requires.to) in
     let m = refused h c.open.new.log clients dups n k c.index-app.result.now c.in-Refused.cause (app_there clients (k - 1) c.index-app.result.now i_in c.index-app.ensures) a in
     m.1
-    ∙ ap (λ (r : Result ℕ OpenRefusal). (opened_or r (state h clients dups n) k).1) (sym m.0)
-    ∙ ap (λ (s : State). (opened_or (opening s.history (app_of s k)) s k).1) c.self.view_is
+    ∙ ap (λ (r : Result ℕ OpenRefusal). (opening_outcome r (state h clients dups n) k).1) (sym m.0)
+    ∙ ap (λ (s : State). (opening_outcome (opening s.history (app_of s k)) s k).1) c.self.view_is

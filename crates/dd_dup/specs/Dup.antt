@@ -1,0 +1,11 @@
+-- What contracts see of a duplicator's fields.
+use Rattle.dd_dup.specs.declared.duplicator.Dup.TheInside.{Inside}
+use Rattle.dd_dup.specs.Duplicator.{Duplicator}
+
+abbrev pub value : Inside → Duplicator
+value d = record {
+  memory = record { opened = d.opened; mark = d.mark; held = d.held };
+  surface = d.surface;
+  picture = d.picture;
+  mode = d.mode;
+}

@@ -1,0 +1,46 @@
+-- What private functions gather and copy: no public contract cites these words.
+use Rattle.std.specs.Prelude.{ℕ, if◌then◌else◌, List, fold, Option, Some, None}
+use Rattle.dd_geom.specs.declared.rect.Rect.{Rect}
+use Rattle.dd_geom.specs.Grid.{Grid}
+use Rattle.dd_grid.specs.Cell.{Cell}
+use Rattle.dd_grid.specs.Drawing.{taken}
+use Rattle.dd_bits.specs.CanonicalList.{canonical_list}
+use Rattle.dd_ops.specs.declared.operations.Op.{Op}
+use Rattle.dd_acc.specs.Interval.{Interval, nothing, with_present}
+use Rattle.dd_log.specs.declared.events.Entry.{Entry}
+use Rattle.dd_log.specs.Picture.{presents}
+use Rattle.dd_dup.specs.declared.frame.News.{News}
+use Rattle.dd_dup.specs.declared.news.Gathered.{Gathered}
+use Rattle.dd_dup.specs.News.{last_present, where_any}
+
+-- what was gathered so far as an interval
+abbrev pub interval_of : ℕ → ℕ → Option Gathered → Interval
+interval_of w h None = nothing w h
+interval_of w h (Some g) = g.acc
+
+-- and what is gathered after one event more, of this number: a present is added
+abbrev pub gathered_next : ℕ → ℕ → Option Gathered → ℕ → Option (List Op) → Option Gathered
+gathered_next w h so_far number None = so_far
+gathered_next w h so_far number (Some ops) = Some (record { acc = with_present (interval_of w h so_far) ops; last = number })
+
+-- what is gathered of presents, of which the last has this number
+abbrev pub gathered_of : ℕ → ℕ → List (List Op) → ℕ → Option Gathered
+gathered_of w h presents last = where_any presents (record { acc = fold with_present (nothing w h) presents; last = last })
+
+-- of some entries, where the first of them stands at a place
+unfoldable pub gathered : ℕ → ℕ → ℕ → List Entry → Option Gathered
+gathered w h place es = gathered_of w h (presents es) (last_present 0 place es)
+
+-- what it tells
+abbrev pub news_from : Gathered → News
+news_from g = record {
+  accumulated = g.acc.frames;
+  last_present = g.last;
+  coalesced = g.acc.coalesced;
+  moves = g.acc.moves;
+  dirt = canonical_list g.acc.area;
+}
+
+-- rectangles copied from what is seen of a picture, one after another
+abbrev pub copied_each : Grid ℕ → List Rect → Grid Cell → Grid ℕ
+copied_each s rects p = fold (λ t r. taken t r p) s rects

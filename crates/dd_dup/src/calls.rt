@@ -1,0 +1,103 @@
+//! What a duplicator answers to a call, with copies of what a frame lends.
+
+ghost use Rattle.std.specs.Prelude.{◌≡◌, IfOk, OnOk, OnErr, IsOk, IsSome};
+ghost use Rattle.dd_geom.specs.Grid.{rows};
+ghost use Rattle.dd_dup.specs.Reply.{acquire_reply, acquire_memory, acquire_answer, release_reply, release_answer, without_frame, surface_reply};
+ghost use Rattle.dd_dup.specs.Stands.{Stands};
+
+use crate::duplicator::Dup;
+use crate::frame::News;
+use dd_geom::{Moves, Rects};
+use dd_grid::Surface;
+use dd_log::{Answer, DupRefusal, Log, Rows};
+use dd_ops::Colours;
+use std::alloc::{AllocError, Global};
+
+/// What a duplicator is asked.
+#[derive(Clone, Copy, Debug, PartialEq, Eq)]
+pub enum DupCall {
+    /// Acquires a frame (AcquireNextFrame).
+    Acquire,
+    /// Releases the frame (ReleaseFrame).
+    Release,
+    /// Asks for the rows of the acquired surface.
+    Surface,
+}
+
+/// The moves and the dirty rectangles of what is new, on memory of their own.
+fn lists_of(alloc: Global, news: &News) -> Result<(Moves, Rects), AllocError>
+    ensures moves { IfOk result (λ l. l.0 ≡ news.now.moves) }
+    ensures dirt { IfOk result (λ l. l.1 ≡ news.now.dirt) }
+{
+    let moves = Vec::from_slice(alloc, news.moves.as_slice())?;
+    let dirt = Vec::from_slice(alloc, news.dirt.as_slice())?;
+    Ok((Moves::from_vec(moves), Rects::from_vec(dirt)))
+}
+
+/// A refusal of a call that was given no buffer.
+fn refused(refusal: DupRefusal) -> Answer
+    ensures { result ≡ Answer.Refused refusal None }
+{
+    Answer::Refused {
+        refusal,
+        buffer: None,
+    }
+}
+
+/// Acquires a frame. All memory is taken before the duplicator changes.
+pub(crate) fn acquire(alloc: Global, dup: &mut Dup, log: &Log) -> Result<Answer, AllocError>
+    requires { Stands dup.old log.now }
+    ensures answer { IfOk result (λ a. a ≡ acquire_answer (acquire_reply dup.old.memory log.now)) }
+    ensures memory { OnOk result (dup.new.memory ≡ acquire_memory dup.old.memory log.now) }
+    ensures err { OnErr result (dup.new ≡ dup.old) }
+    ensures wants { OnErr result (IsOk (acquire_reply dup.old.memory log.now)) }
+    ensures stands { Stands dup.new log.now }
+{
+    match dup.next_news(log) {
+        Ok(news) => {
+            let (moves, dirt) = lists_of(alloc, &news)?;
+            let info = dup.hold(log, news);
+            Ok(Answer::Frame { info, moves, dirt })
+        }
+        Err(DupRefusal::OutOfMemory) => Err(AllocError),
+        Err(refusal) => Ok(refused(refusal)),
+    }
+}
+
+/// Releases the frame.
+pub(crate) fn release(dup: &mut Dup, log: &Log) -> Answer
+    requires { Stands dup.old log.now }
+    ensures answer { result ≡ release_answer (release_reply dup.old.memory) }
+    ensures memory { dup.new.memory ≡ without_frame dup.old.memory }
+    ensures stands { Stands dup.new log.now }
+{
+    match dup.release(log) {
+        Ok(()) => Answer::Released,
+        Err(refusal) => refused(refusal),
+    }
+}
+
+/// A copy of the rows of a surface.
+fn rows_of(alloc: Global, surface: &Surface) -> Result<Rows, AllocError>
+    ensures { IfOk result (λ r. r ≡ rows surface.now) }
+{
+    let mut items = Vec::with_capacity(alloc, surface.height() as usize)?;
+    for y in 0..surface.height() {
+        let row = Vec::from_slice(alloc, surface.row(y))?;
+        items.push(Colours::from_vec(row))?;
+    }
+    Ok(Rows::from_vec(items))
+}
+
+/// The rows of the acquired surface; none where no frame is held.
+pub(crate) fn surface(alloc: Global, dup: &Dup, log: &Log) -> Result<Answer, AllocError>
+    requires { Stands dup.now log.now }
+    ensures answer { IfOk result (λ a. a ≡ Answer.Surface (surface_reply dup.now.memory log.now)) }
+    ensures wants { OnErr result (IsSome dup.now.memory.held) }
+{
+    let _ = log;
+    match dup.surface() {
+        None => Ok(Answer::Surface(None)),
+        Some(surface) => Ok(Answer::Surface(Some(rows_of(alloc, surface)?))),
+    }
+}
