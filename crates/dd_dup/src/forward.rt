@@ -1,6 +1,7 @@
 //! A picture and a surface brought forward by the entries that are new.
 
 ghost use Rattle.std.specs.Prelude.{◌≡◌, ◌≤◌, IsTrue, All, length};
+ghost use Rattle.dd_geom.specs.Grid.{SameSize};
 ghost use Rattle.dd_geom.specs.Rect.{is_inside, is_move_inside};
 ghost use Rattle.dd_grid.specs.Drawing.{seen};
 ghost use Rattle.dd_acc.specs.Rebuild.{all_moved};
@@ -19,8 +20,7 @@ use dd_ops::apply;
 fn draw_event(picture: &mut Picture, event: &Event)
     requires { IsTrue (event_fits picture.old.width picture.old.height event.now) }
     ensures drawn { picture.new ≡ shown_after picture.old event.now }
-    ensures width { picture.new.width ≡ picture.old.width }
-    ensures height { picture.new.height ≡ picture.old.height }
+    ensures size { SameSize picture.old picture.new }
 {
     match event.present() {
         None => {}
@@ -32,8 +32,7 @@ fn draw_event(picture: &mut Picture, event: &Event)
 fn draw_entries(picture: &mut Picture, entries: &[Entry])
     requires { IsTrue (entries_fit picture.old.width picture.old.height entries.now) }
     ensures drawn { picture.new ≡ shown picture.old entries.now }
-    ensures width { picture.new.width ≡ picture.old.width }
-    ensures height { picture.new.height ≡ picture.old.height }
+    ensures size { SameSize picture.old picture.new }
 {
     for entry in entries {
         draw_event(picture, &entry.event);
@@ -44,8 +43,7 @@ fn draw_entries(picture: &mut Picture, entries: &[Entry])
 fn move_all(surface: &mut Surface, moves: &[Move])
     requires { All (λ m. IsTrue (is_move_inside m surface.old.width surface.old.height)) moves.now }
     ensures moved { surface.new ≡ all_moved surface.old moves.now }
-    ensures width { surface.new.width ≡ surface.old.width }
-    ensures height { surface.new.height ≡ surface.old.height }
+    ensures size { SameSize surface.old surface.new }
 {
     for mv in moves {
         surface.scroll(*mv);
@@ -55,11 +53,9 @@ fn move_all(surface: &mut Surface, moves: &[Move])
 /// Copies what is seen of the picture in the dirty rectangles.
 fn copy_dirt(surface: &mut Surface, rects: &[Rect], picture: &Picture)
     requires inside { All (λ r. IsTrue (is_inside r surface.old.width surface.old.height)) rects.now }
-    requires width { picture.now.width ≡ surface.old.width }
-    requires height { picture.now.height ≡ surface.old.height }
+    requires size { SameSize surface.old picture.now }
     ensures copied { surface.new ≡ copied_each surface.old rects.now picture.now }
-    ensures width_kept { surface.new.width ≡ surface.old.width }
-    ensures height_kept { surface.new.height ≡ surface.old.height }
+    ensures size_kept { SameSize surface.old surface.new }
 {
     for rect in rects {
         surface.take(*rect, picture);

@@ -7,6 +7,8 @@ loop-mv-preserved c = (
   c.scroll.ensures.drawn
       ∙ moved_more c.args.surface.now c.loop-mv.surface c.args.moves.now c.loop-mv.mv-index _ c.loop-mv-test.true
       c.loop-mv.invariant.0,
-  c.scroll.ensures.width ∙ c.loop-mv.invariant.1,
-  c.scroll.ensures.height ∙ c.loop-mv.invariant.2,
+  record {
+    width = c.scroll.ensures.size.width ∙ c.loop-mv.invariant.1.width;
+    height = c.scroll.ensures.size.height ∙ c.loop-mv.invariant.1.height;
+  },
 )
