@@ -1,5 +1,6 @@
 -- What is new to a duplicator: what the entries from its mark on tell, and the frame of it.
 use Rattle.std.specs.Prelude.{ℕ, ◌+◌, ◌*◌, Bool, false, if◌then◌else◌, pos, List, [], ◌∷◌, length, drop, Option, Some, None, is_some}
+use Rattle.dd_geom.specs.declared.rect.TheConstants.{RECT_BYTES, MOVE_BYTES}
 use Rattle.dd_geom.specs.declared.rect.Rect.{Rect}
 use Rattle.dd_geom.specs.declared.rect.Move.{Move}
 use Rattle.dd_grid.specs.Drawing.{any_hidden}
@@ -62,7 +63,7 @@ info_from n protected = record {
   coalesced = n.coalesced;
   protected = protected;
   pointer = record { position = record { x = pos 0; y = pos 0 }; visible = false };
-  meta_size = 24 * length n.moves + 16 * length n.dirt;
+  meta_size = MOVE_BYTES * length n.moves + RECT_BYTES * length n.dirt;
   shape_size = 0;
 }
 

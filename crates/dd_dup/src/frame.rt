@@ -1,19 +1,14 @@
 //! What an acquired frame tells.
 
 ghost use Rattle.std.specs.Prelude.{◌≡◌, ◌+◌, ◌*◌, ◌≤◌, length};
+ghost use Rattle.dd_geom.specs.declared.rect.TheConstants.{RECT_BYTES, MOVE_BYTES};
 ghost use Rattle.dd_coal.specs.declared.coalescing.TheConstants.{MAX_RECTS};
 ghost use Rattle.dd_acc.specs.declared.interval.TheConstants.{MAX_MOVES};
 ghost use Rattle.dd_dup.specs.News.{frame_from};
 
 use dd_acc::{FrameMoves, FrameRects};
-use dd_geom::{Move, Point, Rect};
+use dd_geom::{MOVE_BYTES, Move, Point, RECT_BYTES, Rect};
 use dd_log::{FrameInfo, Pointer};
-
-/// The bytes of a dirty rectangle among the metadata (RECT).
-const RECT_BYTES: u32 = 16;
-
-/// The bytes of a move among the metadata (DXGI_OUTDUPL_MOVE_RECT).
-const MOVE_BYTES: u32 = 24;
 
 /// What is new since a duplicator's mark.
 #[derive(Debug, Drop)]
@@ -40,7 +35,7 @@ pub struct Frame {
 fn metadata_of(moves: &[Move], dirt: &[Rect]) -> u32
     requires moves { length moves.now ≤ MAX_MOVES }
     requires dirt { length dirt.now ≤ MAX_RECTS }
-    ensures { result ≡ 24 * length moves.now + 16 * length dirt.now }
+    ensures { result ≡ MOVE_BYTES * length moves.now + RECT_BYTES * length dirt.now }
 {
     MOVE_BYTES * moves.len() as u32 + RECT_BYTES * dirt.len() as u32
 }
