@@ -1,13 +1,14 @@
 -- The desk's picture: what the presents among the entries of a list make of it.
-use Rattle.std.specs.Prelude.{ℕ, List, fold, Option, Some, None, filter_map}
+use Rattle.std.specs.Prelude.{◌≡◌, ℕ, true, List, fold, Option, Some, None, filter_map}
 use Rattle.dd_geom.specs.Grid.{Grid}
+use Rattle.dd_geom.specs.Rect.{IsSize}
 use Rattle.dd_grid.specs.Cell.{Cell}
-use Rattle.dd_grid.specs.Drawing.{black, seen}
+use Rattle.dd_grid.specs.Drawing.{black, seen, IsPicture, IsSurface}
 use Rattle.dd_ops.specs.declared.operations.Op.{Op}
 use Rattle.dd_ops.specs.Operations.{drawn}
 use Rattle.dd_log.specs.declared.events.Entry.{Entry}
 use Rattle.dd_log.specs.declared.events.Event.{Event}
-use Rattle.dd_log.specs.History.{History, desk_mode, present_of}
+use Rattle.dd_log.specs.History.{History, desk_mode, legal, present_of}
 
 -- the presents among some entries, in order
 unfoldable pub presents : List Entry → List (List Op)
@@ -32,3 +33,8 @@ picture h = shown (black (desk_mode h).width (desk_mode h).height) h.entries
 -- what is seen of the desk, hidden points black
 abbrev pub view : History → Grid ℕ
 view h = seen (picture h)
+
+-- of a legal list, in a mode of a size that surfaces have, the picture is a picture, and what is seen of it a surface
+abbrev pub LegalIsShown : Type 0
+LegalIsShown =
+    (h : History) → IsSize (desk_mode h).width (desk_mode h).height → legal h ≡ true → IsPicture (picture h) × IsSurface (view h)
