@@ -9,3 +9,4 @@ pub mod Parts
 pub mod AnswerExamples
 pub mod InRange
 pub mod ReadBack
+pub mod SpellingExamples
