@@ -1,5 +1,5 @@
 -- The trees and the lines of some answers, computed.
-use Rattle.std.proofs.Common.{◌≡◌, pos, negsuc, false, [], ◌∷◌, ◌++◌, codes, Some, None, refl}
+use Rattle.std.proofs.Common.{◌≡◌, pos, negsuc, false, [], ◌∷◌, codes, Some, None, refl}
 use Rattle.std.specs.Fmt.{digits}
 use Rattle.serde_json.specs.Data.{boolean, number, unsigned, negative, array, object, item, no_items, member, no_members}
 use Rattle.serde_json.proofs.OnLiterals.{serde_json_on_literals}
@@ -9,6 +9,7 @@ use Rattle.dd_geom.specs.declared.rect.Move.{Move}
 use Rattle.dd_log.specs.declared.answers.FrameInfo.{FrameInfo}
 use Rattle.dd_log.specs.declared.answers.Answer.TheVariants as answer
 use Rattle.dd_log.specs.declared.answers.LogRefusal.TheVariants as drawing
+use Rattle.dd_log.specs.declared.answers.OpenRefusal.TheVariants as opening
 use Rattle.dd_log.specs.declared.answers.DupRefusal.TheVariants as call
 use Rattle.dd_script.specs.Answers.{point_tree, rect_tree, move_tree, info_tree, frame_tree, row_digits, surface_tree, refusal_tree, answer_tree}
 use Rattle.dd_script.specs.Texts.{line, text}
@@ -64,31 +65,28 @@ move_from_outside : move_tree scrolled
 unfolding move_tree
 move_from_outside = refl
 
-line_of_a_drawing : line (answer.Entered 2) ≡ codes "{\"entry\":2}" ++ 10 ∷ []
-unfolding line answer_tree digits serde_json_on_literals
-line_of_a_drawing = refl
-
-line_of_a_timeout : line (answer.Refused call.WaitTimeout None) ≡ codes "{\"code\":\"887a0027\",\"refused\":\"WaitTimeout\"}" ++ 10 ∷ []
-unfolding line answer_tree refusal_tree serde_json_on_literals
-line_of_a_timeout = refl
-
-line_with_a_buffer : line (answer.Refused call.InvalidCall (Some (238 ∷ 1 ∷ []))) ≡ codes "{\"buffer\":\"ee01\",\"code\":\"887a0001\",\"refused\":\"InvalidCall\"}" ++ 10 ∷ []
-unfolding line answer_tree refusal_tree encode_with serde_json_on_literals
-line_with_a_buffer = refl
-
-line_of_a_bad_rectangle : line (answer.NotDrawn (drawing.BadRect 0)) ≡ codes "{\"code\":\"80070057\",\"op\":0,\"refused\":\"BadRect\"}" ++ 10 ∷ []
-unfolding line answer_tree refusal_tree digits serde_json_on_literals
-line_of_a_bad_rectangle = refl
-
-line_of_a_surface : line (answer.Surface (Some ((0xff8001 ∷ 255 ∷ []) ∷ []))) ≡ codes "{\"surface\":[\"ff80010000ff\"]}" ++ 10 ∷ []
-unfolding line answer_tree surface_tree row_digits encode_with serde_json_on_literals
-line_of_a_surface = refl
-
-lines_in_turn : text (answer.Released ∷ answer.Surface None ∷ []) ≡ codes "{\"released\":true}" ++ 10 ∷ [] ++ codes "{\"surface\":null}" ++ 10 ∷ []
-unfolding text line answer_tree surface_tree serde_json_on_literals
-lines_in_turn = refl
-
--- a scroll, told as one move
-line_of_a_move : line (answer.Frame (record told { last_present = 3; meta_size = 24 }) (moved ∷ []) []) ≡ codes "{\"dirty\":[],\"frame\":{\"accumulated\":1,\"coalesced\":false,\"meta\":24,\"mouse\":0,\"pointer\":[0,0],\"present\":3,\"protected\":false,\"shape\":0,\"visible\":false},\"moves\":[[0,0,2,0,4,1]]}" ++ 10 ∷ []
+-- a frame with a move and a dirty rectangle
+line_of_a_frame : line (answer.Frame (record told { meta_size = 40 }) (moved ∷ []) (filled ∷ [])) ≡ codes "{\"dirty\":[[1,1,3,2]],\"frame\":{\"accumulated\":1,\"coalesced\":false,\"meta\":40,\"mouse\":0,\"pointer\":[0,0],\"present\":2,\"protected\":false,\"shape\":0,\"visible\":false},\"moves\":[[0,0,2,0,4,1]]}\n"
 unfolding line answer_tree frame_tree info_tree point_tree rect_tree move_tree digits serde_json_on_literals
-line_of_a_move = refl
+line_of_a_frame = refl
+
+-- answers, and the text of each of them
+lines_of_accepted_calls : text (answer.Entered 2 ∷ answer.Opened 1 3 ∷ answer.Released ∷ answer.Surface None ∷ answer.Surface (Some ((0xff8001 ∷ 255 ∷ []) ∷ [])) ∷ [])
+    ≡ codes "{\"entry\":2}\n{\"entry\":1,\"slot\":3}\n{\"released\":true}\n{\"surface\":null}\n{\"surface\":[\"ff80010000ff\"]}\n"
+unfolding text line answer_tree surface_tree row_digits encode_with digits serde_json_on_literals
+lines_of_accepted_calls = refl
+
+lines_of_refused_drawings : text (answer.NotDrawn drawing.Full ∷ answer.NotDrawn (drawing.BadRect 5) ∷ [])
+    ≡ codes "{\"refused\":\"Full\"}\n{\"code\":\"80070057\",\"op\":5,\"refused\":\"BadRect\"}\n"
+unfolding text line answer_tree refusal_tree digits serde_json_on_literals
+lines_of_refused_drawings = refl
+
+lines_of_refused_openings : text (answer.NotOpened opening.AlreadyDuplicating ∷ answer.NotOpened opening.NotAvailable ∷ answer.NotOpened opening.Full ∷ [])
+    ≡ codes "{\"code\":\"80070057\",\"refused\":\"AlreadyDuplicating\"}\n{\"code\":\"887a0022\",\"refused\":\"NotAvailable\"}\n{\"refused\":\"Full\"}\n"
+unfolding text line answer_tree refusal_tree serde_json_on_literals
+lines_of_refused_openings = refl
+
+lines_of_refused_calls : text (answer.Refused call.InvalidCall None ∷ answer.Refused call.InvalidCall (Some (238 ∷ 1 ∷ [])) ∷ answer.Refused call.WaitTimeout None ∷ answer.Refused call.OutOfMemory None ∷ answer.NoDuplicator ∷ [])
+    ≡ codes "{\"code\":\"887a0001\",\"refused\":\"InvalidCall\"}\n{\"buffer\":\"ee01\",\"code\":\"887a0001\",\"refused\":\"InvalidCall\"}\n{\"code\":\"887a0027\",\"refused\":\"WaitTimeout\"}\n{\"refused\":\"OutOfMemory\"}\n{\"refused\":\"NoDuplicator\"}\n"
+unfolding text line answer_tree refusal_tree encode_with serde_json_on_literals
+lines_of_refused_calls = refl

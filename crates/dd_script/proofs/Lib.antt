@@ -7,3 +7,6 @@ pub mod ScriptExamples
 pub mod NoFloat
 pub mod Parts
 pub mod AnswerExamples
+pub mod InRange
+pub mod ReadBack
+pub mod SpellingExamples

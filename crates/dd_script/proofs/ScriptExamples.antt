@@ -1,19 +1,32 @@
--- Texts that are scripts, and texts that are none, each read by the definitions.
-use Rattle.std.proofs.Common.{◌≡◌, ℕ, List, [], ◌∷◌, Option, Some, None, refl, codes, option_and_then, pos, negsuc}
+-- Texts that are scripts or parts of scripts, and texts that are none, each read by the definitions.
+use Rattle.std.proofs.Common.{◌≡◌, ℕ, Bool, true, List, [], ◌∷◌, Option, Some, refl, codes, option_and_then, pos, negsuc, replicate}
+use Rattle.std.specs.Prelude.{is_none, is_some}
+use Rattle.std.specs.List.{list_all}
+use Rattle.serde_json.specs.Data.{Data, array}
 use Rattle.serde_json.specs.Read.{read}
-use Rattle.dd_modes.specs.declared.modes.Rotation.TheVariants.{Identity}
-use Rattle.dd_ops.specs.declared.operations.Op.{Op}
+use Rattle.serde_json.specs.View.{items_of}
+use Rattle.dd_modes.specs.declared.modes.Rotation.TheVariants.{Identity, Rotate270}
 use Rattle.dd_ops.specs.declared.operations.Op.TheVariants.{Fill, Blit, Scroll}
 use Rattle.dd_log.specs.declared.events.Draw.TheVariants.{Present}
 use Rattle.dd_station.specs.declared.steps.ClientCall.TheVariants.{Duplicate, Acquire, Surface}
 use Rattle.dd_station.specs.declared.steps.Step.TheVariants.{Draw, Call}
 use Rattle.dd_station.specs.declared.steps.Script.{Script}
-use Rattle.dd_script.specs.Script.{rect_of, colour_of, operation_of, mode_of, script_of}
+use Rattle.dd_script.specs.Script.{rect_of, colour_of, operation_of, operations_of, step_of, modes_of, script_of}
 use Rattle.dd_script.proofs.OnLiterals.{script_on_literals}
+
+-- what a text is, where its tree is read by f
+abbrev read_by : {A : Type 0} → (Data → Option A) → List ℕ → Option A
+read_by f text = option_and_then f (read text)
+
+-- none of the texts is read by f
+abbrev are_refused : {A : Type 0} → (Data → Option A) → List (List ℕ) → Bool
+are_refused f texts = list_all (λ text. is_none (read_by f text)) texts
 
 -- the script of a text
 abbrev read_text : List ℕ → Option Script
-read_text text = option_and_then script_of (read text)
+read_text text = read_by script_of text
+
+-- ---- whole scripts
 
 one_frame : read_text (codes "{\"modes\":[[4,3,1]],\"capacity\":100,\"privileged\":[],\"clients\":[1],\"steps\":[{\"client\":1,\"call\":\"duplicate\"},{\"present\":[{\"fill\":[1,1,3,2],\"colour\":\"ff0000\"}]},{\"client\":1,\"call\":\"acquire\"},{\"client\":1,\"call\":\"surface\"}]}")
     ≡ Some (record {
@@ -34,23 +47,6 @@ no_step : read_text (codes "{\"steps\":[],\"clients\":[4294967295],\"privileged\
 unfolding script_on_literals
 no_step = refl
 
-fraction : read_text (codes "{\"modes\":[[1,1,1]],\"capacity\":10.0,\"privileged\":[],\"clients\":[1],\"steps\":[]}") ≡ None
-unfolding script_on_literals
-fraction = refl
-
-exponent : read_text (codes "{\"modes\":[[1,1,1]],\"capacity\":1e1,\"privileged\":[],\"clients\":[1],\"steps\":[]}") ≡ None
-unfolding script_on_literals
-exponent = refl
-
-further_key : read_text (codes "{\"modes\":[[1,1,1]],\"capacity\":10,\"privileged\":[],\"clients\":[1],\"steps\":[],\"more\":0}") ≡ None
-unfolding script_on_literals
-further_key = refl
-
--- the list keeps one place more than the steps
-capacity_of_the_steps : read_text (codes "{\"modes\":[[1,1,1]],\"capacity\":1,\"privileged\":[],\"clients\":[1],\"steps\":[{\"client\":1,\"call\":\"duplicate\"}]}") ≡ None
-unfolding script_on_literals
-capacity_of_the_steps = refl
-
 -- rectangles that lie outside the mode, and too few colours, are a script
 drawn_outside : read_text (codes "{\"modes\":[[2,1,1]],\"capacity\":9,\"privileged\":[],\"clients\":[1],\"steps\":[{\"client\":1,\"call\":\"duplicate\"},{\"present\":[{\"fill\":[0,0,3,1],\"colour\":\"000000\"},{\"blit\":[-5,7,9,8],\"colours\":\"0000ff\"},{\"scroll\":[1,0,0,9],\"from\":[0,3]}]}]}")
     ≡ Some (record {
@@ -67,64 +63,83 @@ drawn_outside : read_text (codes "{\"modes\":[[2,1,1]],\"capacity\":9,\"privileg
 unfolding script_on_literals
 drawn_outside = refl
 
-present_before_the_opening : read_text (codes "{\"modes\":[[2,1,1]],\"capacity\":9,\"privileged\":[],\"clients\":[1],\"steps\":[{\"present\":[]},{\"client\":1,\"call\":\"duplicate\"}]}") ≡ None
+no_json : list_all (λ text. is_none (read text)) (codes "" ∷ codes "{} {}" ∷ codes "{\"steps\":[]" ∷ []) ≡ true
 unfolding script_on_literals
-present_before_the_opening = refl
+no_json = refl
 
-second_opening : read_text (codes "{\"modes\":[[2,1,1]],\"capacity\":9,\"privileged\":[],\"clients\":[1],\"steps\":[{\"client\":1,\"call\":\"duplicate\"},{\"client\":1,\"call\":\"duplicate\"}]}") ≡ None
+no_scripts : are_refused script_of
+    (codes "[]"
+    -- a part is missing, a further key
+    ∷ codes "{\"modes\":[[1,1,1]],\"capacity\":9,\"privileged\":[],\"clients\":[1]}"
+    ∷ codes "{\"modes\":[[1,1,1]],\"capacity\":9,\"privileged\":[],\"clients\":[1],\"steps\":[],\"more\":0}"
+    -- a capacity with a fraction, with an exponent, of nothing, past the greatest, of the steps alone
+    ∷ codes "{\"modes\":[[1,1,1]],\"capacity\":10.0,\"privileged\":[],\"clients\":[1],\"steps\":[]}"
+    ∷ codes "{\"modes\":[[1,1,1]],\"capacity\":1e1,\"privileged\":[],\"clients\":[1],\"steps\":[]}"
+    ∷ codes "{\"modes\":[[1,1,1]],\"capacity\":0,\"privileged\":[],\"clients\":[1],\"steps\":[]}"
+    ∷ codes "{\"modes\":[[1,1,1]],\"capacity\":1048577,\"privileged\":[],\"clients\":[1],\"steps\":[]}"
+    ∷ codes "{\"modes\":[[1,1,1]],\"capacity\":1,\"privileged\":[],\"clients\":[1],\"steps\":[{\"client\":1,\"call\":\"duplicate\"}]}"
+    -- two modes, a privileged application, no client, two clients
+    ∷ codes "{\"modes\":[[1,1,1],[2,1,1]],\"capacity\":9,\"privileged\":[],\"clients\":[1],\"steps\":[]}"
+    ∷ codes "{\"modes\":[[1,1,1]],\"capacity\":9,\"privileged\":[1],\"clients\":[1],\"steps\":[]}"
+    ∷ codes "{\"modes\":[[1,1,1]],\"capacity\":9,\"privileged\":[],\"clients\":[],\"steps\":[]}"
+    ∷ codes "{\"modes\":[[1,1,1]],\"capacity\":9,\"privileged\":[],\"clients\":[1,2],\"steps\":[]}"
+    -- a present before the opening, a second opening, a client past the last, client 0
+    ∷ codes "{\"modes\":[[2,1,1]],\"capacity\":9,\"privileged\":[],\"clients\":[1],\"steps\":[{\"present\":[]},{\"client\":1,\"call\":\"duplicate\"}]}"
+    ∷ codes "{\"modes\":[[2,1,1]],\"capacity\":9,\"privileged\":[],\"clients\":[1],\"steps\":[{\"client\":1,\"call\":\"duplicate\"},{\"client\":1,\"call\":\"duplicate\"}]}"
+    ∷ codes "{\"modes\":[[2,1,1]],\"capacity\":9,\"privileged\":[],\"clients\":[1],\"steps\":[{\"client\":2,\"call\":\"duplicate\"}]}"
+    ∷ codes "{\"modes\":[[2,1,1]],\"capacity\":9,\"privileged\":[],\"clients\":[1],\"steps\":[{\"client\":0,\"call\":\"duplicate\"}]}"
+    ∷ []) ≡ true
 unfolding script_on_literals
-second_opening = refl
+no_scripts = refl
 
-unknown_client : read_text (codes "{\"modes\":[[2,1,1]],\"capacity\":9,\"privileged\":[],\"clients\":[1],\"steps\":[{\"client\":2,\"call\":\"duplicate\"}]}") ≡ None
-unfolding script_on_literals
-unknown_client = refl
+-- ---- numbers, rectangles and colours
 
--- minus zero is read as a fraction is
-minus_zero : option_and_then rect_of (read (codes "[-0,0,1,1]")) ≡ None
-unfolding script_on_literals
-minus_zero = refl
-
--- the ends of the coordinates' range, and the first number past them
-widest_rectangle : option_and_then rect_of (read (codes "[-2147483648,-1,2147483647,0]"))
+-- the ends of the coordinates' range
+widest_rectangle : read_by rect_of (codes "[-2147483648,-1,2147483647,0]")
     ≡ Some (record { left = negsuc 2147483647; top = negsuc 0; right = pos 2147483647; bottom = pos 0 })
 unfolding script_on_literals
 widest_rectangle = refl
 
-past_the_widest : option_and_then rect_of (read (codes "[0,0,2147483648,1]")) ≡ None
+-- the first numbers past them, minus zero (which is read as a fraction is), three sides and five
+no_rectangles : are_refused rect_of
+    (codes "[0,0,2147483648,1]" ∷ codes "[-2147483649,0,1,1]" ∷ codes "[-0,0,1,1]" ∷ codes "[0,0,1]" ∷ codes "[0,0,1,1,1]"
+    ∷ codes "{}" ∷ []) ≡ true
 unfolding script_on_literals
-past_the_widest = refl
+no_rectangles = refl
 
-either_case : option_and_then colour_of (read (codes "\"fF8Aa0\"")) ≡ Some 0xff8aa0
+either_case : read_by colour_of (codes "\"fF8Aa0\"") ≡ Some 0xff8aa0
 unfolding script_on_literals
 either_case = refl
 
-five_digits : option_and_then colour_of (read (codes "\"fF8Aa\"")) ≡ None
+-- five digits, seven, eight, and a letter that is no digit
+no_colours : are_refused colour_of
+    (codes "\"fF8Aa\"" ∷ codes "\"fF8Aa00\"" ∷ codes "\"fF8Aa000\"" ∷ codes "\"abcdeg\"" ∷ codes "0" ∷ []) ≡ true
 unfolding script_on_literals
-five_digits = refl
+no_colours = refl
 
--- the operation of a text
-abbrev read_operation : List ℕ → Option Op
-read_operation text = option_and_then operation_of (read text)
+-- the greatest mode, and one with too many pixels, a fifth rotation, no side, and no mode
+greatest_mode : read_by modes_of (codes "[[8192,2048,4]]") ≡ Some (record { width = 8192; height = 2048; rotation = Rotate270 } ∷ [])
+unfolding script_on_literals
+greatest_mode = refl
 
-two_colours : read_operation (codes "{\"blit\":[1,0,3,1],\"colours\":\"fF8001000102\"}")
+no_modes : are_refused modes_of
+    (codes "[[8192,2049,4]]" ∷ codes "[[16385,1,0]]" ∷ codes "[[1,1,5]]" ∷ codes "[[0,1,1]]" ∷ codes "[[1,1]]" ∷ codes "[]" ∷ []) ≡ true
+unfolding script_on_literals
+no_modes = refl
+
+-- ---- operations
+
+two_colours : read_by operation_of (codes "{\"blit\":[1,0,3,1],\"colours\":\"fF8001000102\"}")
     ≡ Some (Blit (record { left = pos 1; top = pos 0; right = pos 3; bottom = pos 1 }) (0xff8001 ∷ 0x000102 ∷ []))
 unfolding script_on_literals
 two_colours = refl
 
-no_colours : read_operation (codes "{\"colours\":\"\",\"blit\":[1,0,3,1]}")
+no_colour : read_by operation_of (codes "{\"colours\":\"\",\"blit\":[1,0,3,1]}")
     ≡ Some (Blit (record { left = pos 1; top = pos 0; right = pos 3; bottom = pos 1 }) [])
 unfolding script_on_literals
-no_colours = refl
+no_colour = refl
 
-odd_digits : read_operation (codes "{\"blit\":[1,0,3,1],\"colours\":\"fF80010\"}") ≡ None
-unfolding script_on_literals
-odd_digits = refl
-
-four_digits : read_operation (codes "{\"blit\":[1,0,3,1],\"colours\":\"fF80\"}") ≡ None
-unfolding script_on_literals
-four_digits = refl
-
-scroll_from_outside : read_operation (codes "{\"scroll\":[-2,-1,4,3],\"from\":[-2147483648,5]}")
+scroll_from_outside : read_by operation_of (codes "{\"scroll\":[-2,-1,4,3],\"from\":[-2147483648,5]}")
     ≡ Some (Scroll (record {
       source = record { x = negsuc 2147483647; y = pos 5 };
       dest = record { left = negsuc 1; top = negsuc 0; right = pos 4; bottom = pos 3 };
@@ -132,19 +147,53 @@ scroll_from_outside : read_operation (codes "{\"scroll\":[-2,-1,4,3],\"from\":[-
 unfolding script_on_literals
 scroll_from_outside = refl
 
-point_of_three : read_operation (codes "{\"scroll\":[0,0,4,3],\"from\":[1,2,3]}") ≡ None
+no_operations : are_refused operation_of
+    -- a third key, one key, a word that names no operation, the parts of two kinds
+    (codes "{\"fill\":[0,0,4,3],\"colour\":\"000000\",\"from\":[0,0]}"
+    ∷ codes "{\"scroll\":[0,0,4,3],\"from\":[0,0],\"at\":0}"
+    ∷ codes "{\"drop\":[0,0,1,1]}"
+    ∷ codes "{\"scroll\":[0,0,1,1]}"
+    ∷ codes "{\"cover\":[0,0,1,1],\"colours\":\"000000\"}"
+    ∷ codes "{\"blit\":[0,0,1,1],\"colour\":\"abcdef\"}"
+    ∷ codes "{\"fill\":[0,0,1,1],\"blit\":[0,0,1,1]}"
+    -- seven digits, eight and ten, and one that is none
+    ∷ codes "{\"blit\":[0,0,2,1],\"colours\":\"abcdef0\"}"
+    ∷ codes "{\"blit\":[0,0,2,1],\"colours\":\"abcdef00\"}"
+    ∷ codes "{\"blit\":[0,0,2,1],\"colours\":\"abcdef0000\"}"
+    ∷ codes "{\"blit\":[0,0,2,1],\"colours\":\"abcdef00000x\"}"
+    -- a point of one number, of three, and past the greatest coordinate
+    ∷ codes "{\"scroll\":[0,0,4,3],\"from\":[1]}"
+    ∷ codes "{\"scroll\":[0,0,4,3],\"from\":[1,2,3]}"
+    ∷ codes "{\"scroll\":[0,0,4,3],\"from\":[2147483648,0]}"
+    ∷ []) ≡ true
 unfolding script_on_literals
-point_of_three = refl
+no_operations = refl
 
-fill_of_three_keys : read_operation (codes "{\"fill\":[0,0,4,3],\"colour\":\"000000\",\"from\":[0,0]}") ≡ None
-unfolding script_on_literals
-fill_of_three_keys = refl
+-- a list of so many equal fills
+abbrev fills : ℕ → Option Data
+fills n = option_and_then (λ d. Some (array (items_of (replicate n d)))) (read (codes "{\"fill\":[0,0,1,1],\"colour\":\"0000ff\"}"))
 
--- the word names no operation
-covered : read_operation (codes "{\"cover\":[0,0,1,1],\"colours\":\"000000\"}") ≡ None
+most_operations : is_some (option_and_then operations_of (fills 64)) ≡ true
 unfolding script_on_literals
-covered = refl
+most_operations = refl
 
-fifth_rotation : option_and_then mode_of (read (codes "[1,1,5]")) ≡ None
+one_too_many : is_none (option_and_then operations_of (fills 65)) ≡ true
 unfolding script_on_literals
-fifth_rotation = refl
+one_too_many = refl
+
+-- ---- steps
+
+no_operation : read_by step_of (codes "{\"present\":[]}") ≡ Some (Draw (Present []))
+unfolding script_on_literals
+no_operation = refl
+
+-- an unknown call, a call that is no text, a timeout, a present beside a client, a further key
+no_steps : are_refused step_of
+    (codes "{\"client\":1,\"call\":\"close\"}"
+    ∷ codes "{\"client\":1,\"call\":0}"
+    ∷ codes "{\"client\":1,\"call\":\"acquire\",\"timeout\":0}"
+    ∷ codes "{\"client\":1,\"present\":[]}"
+    ∷ codes "{\"present\":[],\"at\":0}"
+    ∷ []) ≡ true
+unfolding script_on_literals
+no_steps = refl

@@ -8,11 +8,13 @@ mod output;
 mod tests;
 mod tree;
 
-ghost use Rattle.std.specs.Prelude.{◌≡◌, ℕ, List, IfOk};
+ghost use Rattle.std.specs.Prelude.{◌≡◌, ℕ, List, IfOk, IsTrue, Some};
 ghost use Rattle.serde_json.specs.Data.{Data};
 ghost use Rattle.serde_json.specs.View.{view};
 ghost use Rattle.dd_script.specs.Reading.{IsJson, Gives, ReadsTree, Reads};
+ghost use Rattle.dd_station.specs.declared.steps.Script as scripts;
 ghost use Rattle.dd_script.specs.Script.{parts_of, script_of, IsRunnable};
+ghost use Rattle.dd_script.specs.Spelling.{is_readable, IsReadBack};
 
 use crate::fault::ScriptFault;
 use crate::reading::calls::steps_of;
@@ -90,4 +92,13 @@ pub fn read_steps(alloc: Global, bytes: &[u8]) -> Result<Script, ScriptFault>
 /// Bytes are the text of at most one tree.
 pub fn one_tree()
     ensures { (bytes : List ℕ) (d e : Data) → IsJson bytes d → IsJson bytes e → d ≡ e }
+{}
+
+/// A script's own tree is read as that script, for each script that some tree is; and these are
+/// the readable ones.
+#[tactic(auto, using(crate::proofs::InRange::is_read, crate::proofs::ReadBack::script_back, crate::proofs::ReadBack::read_back))]
+pub fn reading_undoes_spelling()
+    ensures undone { (d : Data) (s : scripts.Script) → script_of d ≡ Some s → IsReadBack s }
+    ensures readable { (d : Data) (s : scripts.Script) → script_of d ≡ Some s → IsTrue (is_readable s) }
+    ensures each { (s : scripts.Script) → IsTrue (is_readable s) → IsReadBack s }
 {}

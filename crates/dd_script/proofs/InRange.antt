@@ -1,0 +1,308 @@
+-- What is read of a tree is in its range.
+use Rattle.std.proofs.Common.{◌≡◌, ℕ, suc, ◌*◌, ◌/◌, ◌%◌, ◌+◌, true, false, Bool, List, [], ◌∷◌, length, Some, None, Ok, Err, Option, Result, cond, arith, refl, ap, ◌∙◌, subst, IfSome, option_and_then, option_map}
+use Rattle.std.specs.Prelude.{◌&&◌, ◌==◌, nat_le, ℤ, codes, map, is_some}
+use Rattle.std.specs.List.{list_all, range_with_len}
+use Rattle.std.specs.Int.{w32, from_be_bytes}
+use Rattle.std.specs.Result.{result_ok}
+use Rattle.std.specs.Str.{bytes_eq}
+use Rattle.std.proofs.lemmas.Bool.{and_from, and_parts, lt-ltb}
+use Rattle.std.proofs.lemmas.Option.{IfSome_then}
+use Rattle.hex.specs.Hex.{IsBytes, decode_of, decode_pairs, decode_sized}
+use Rattle.hex.specs.declared.error.FromHexError.{FromHexError}
+use Rattle.hex.specs.declared.error.FromHexError.TheVariants.{OddLength, InvalidStringLength}
+use Rattle.hex.proofs.HexLemmas.{decode_pairs-ok}
+use Rattle.serde_json.specs.Data.{Data}
+use Rattle.serde_json.specs.Find.{get, at, as_number, as_u64, as_i64, as_str}
+use Rattle.dd_modes.specs.Modes.{are_modes}
+use Rattle.dd_ops.specs.declared.operations.Op.{Op}
+use Rattle.dd_ops.specs.declared.lists.TheConstants.{MAX_OPS}
+use Rattle.dd_station.specs.declared.steps.ClientCall.{ClientCall}
+use Rattle.dd_station.specs.declared.steps.ClientCall.TheVariants.{Duplicate, Acquire, Release, Surface}
+use Rattle.dd_station.specs.declared.steps.Step.TheVariants.{Draw}
+use Rattle.dd_station.specs.declared.steps.Script.{Script}
+use Rattle.dd_script.specs.Script.{has_items, has_keys, list_of, each, u32_of, i32_of, rect_of, point_of, colour_at, colour_of, colours_in, colours_from, colours_of, fill_of, blit_of, scroll_of, operation_of, operations_of, draw_of, call_named, call_of, step_of, steps_of, mode_of, modes_of, apps_of, parts_of, keeps_limits, has_one_duplicator, script_of}
+use Rattle.dd_script.specs.Spelling.{is_number, is_coordinate, is_point, is_rectangle, is_colour, is_operation, is_drawing, is_call, is_step, is_readable}
+
+-- ---- steps that may give nothing
+
+abbrev passed : {A : Type 0} → (A → Bool) → A → Type 0
+passed p x = p x ≡ true
+
+-- a value, where there is one, passes the test
+abbrev Passes : {A : Type 0} → (A → Bool) → Option A → Type 0
+Passes p o = IfSome o (passed p)
+
+-- what holds after the second step, from what holds after the first
+then_holds : {A B : Type 0} (P : A → Type 0) (Q : B → Type 0) (o : Option A) (f : A → Option B)
+    → IfSome o P → ((x : A) → P x → IfSome (f x) Q) → IfSome (option_and_then f o) Q
+then_holds P Q None f h k = tt
+then_holds P Q (Some x) f h k = k x h
+
+-- what holds after the second step, whatever the first gave
+always_holds : {A B : Type 0} (Q : B → Type 0) (o : Option A) (f : A → Option B)
+    → ((x : A) → IfSome (f x) Q) → IfSome (option_and_then f o) Q
+always_holds Q None f k = tt
+always_holds Q (Some x) f k = k x
+
+map_holds : {A B : Type 0} (P : A → Type 0) (Q : B → Type 0) (o : Option A) (f : A → B)
+    → IfSome o P → ((x : A) → P x → Q (f x)) → IfSome (option_map f o) Q
+map_holds P Q None f h k = tt
+map_holds P Q (Some x) f h k = k x h
+
+-- a value under a test
+tested_holds : {A : Type 0} (Q : A → Type 0) (b : Bool) (o : Option A) → (b ≡ true → IfSome o Q) → IfSome (cond b o None) Q
+tested_holds Q true o h = h refl
+tested_holds Q false o h = tt
+
+either_holds : {A : Type 0} (Q : A → Type 0) (b : Bool) (o r : Option A) → IfSome o Q → IfSome r Q → IfSome (cond b o r) Q
+either_holds Q true o r h k = h
+either_holds Q false o r h k = k
+
+-- what is read at a key, and the step after it
+key_holds : {A B : Type 0} (P : A → Type 0) (Q : B → Type 0) (key : List ℕ) (d : Data) (read : Data → Option A) (f : A → Option B)
+    → ((e : Data) → IfSome (read e) P) → ((x : A) → P x → IfSome (f x) Q)
+    → IfSome (option_and_then f (option_and_then read (get key d))) Q
+key_holds P Q key d read f h k = then_holds P Q (option_and_then read (get key d)) f (always_holds P (get key d) read h) k
+
+-- what is read at a place of a list, and the step after it
+place_holds : {A B : Type 0} (P : A → Type 0) (Q : B → Type 0) (n : ℕ) (d : Data) (read : Data → Option A) (f : A → Option B)
+    → ((e : Data) → IfSome (read e) P) → ((x : A) → P x → IfSome (f x) Q)
+    → IfSome (option_and_then f (option_and_then read (at n d))) Q
+place_holds P Q n d read f h k = then_holds P Q (option_and_then read (at n d)) f (always_holds P (at n d) read h) k
+
+-- as many items as there were trees, and each passes
+abbrev AllPassed : {A : Type 0} → (A → Bool) → List Data → List A → Type 0
+AllPassed p ds xs = (length xs ≡ length ds) × (list_all p xs ≡ true)
+
+each_passes : {A : Type 0} (f : Data → Option A) (p : A → Bool) → ((d : Data) → Passes p (f d)) → (ds : List Data)
+    → IfSome (each f ds) (AllPassed p ds)
+each_passes f p h [] = (refl, refl)
+each_passes f p h (d ∷ ds) =
+    then_holds (passed p) (AllPassed p (d ∷ ds)) (f d) _ (h d) (λ x px.
+    then_holds (AllPassed p ds) (AllPassed p (d ∷ ds)) (each f ds) _ (each_passes f p h ds) (λ xs rest.
+    (ap suc rest.0, and_from _ _ px rest.1)))
+
+list_passes : {A : Type 0} (f : Data → Option A) (p : A → Bool) → ((d : Data) → Passes p (f d)) → (d : Data)
+    → Passes (list_all p) (option_and_then (each f) (list_of d))
+list_passes f p h d =
+    always_holds (passed (list_all p)) (list_of d) (each f) (λ ds.
+    IfSome_then (each f ds) (each_passes f p h ds) (λ xs both. both.1))
+
+-- ---- numbers
+
+number_passes : (d : Data) → Passes is_number (u32_of d)
+unfolding u32_of
+number_passes d =
+    always_holds (passed is_number) (as_number d) _ (λ number.
+    always_holds (passed is_number) (as_u64 number) _ (λ n.
+    tested_holds (passed is_number) (is_number n) (Some n) (λ h. h)))
+
+coordinate_passes : (d : Data) → Passes is_coordinate (i32_of d)
+unfolding i32_of
+coordinate_passes d =
+    always_holds (passed is_coordinate) (as_number d) _ (λ number.
+    always_holds (passed is_coordinate) (as_i64 number) _ (λ z.
+    tested_holds (passed is_coordinate) (is_coordinate z) (Some z) (λ h. h)))
+
+-- ---- drawing
+
+-- a coordinate of a list, and the step after it
+coordinate_holds : {B : Type 0} (Q : B → Type 0) (n : ℕ) (d : Data) (f : ℤ → Option B)
+    → ((z : ℤ) → is_coordinate z ≡ true → IfSome (f z) Q) → IfSome (option_and_then f (option_and_then i32_of (at n d))) Q
+coordinate_holds Q n d f k = place_holds (passed is_coordinate) Q n d i32_of f coordinate_passes k
+
+rectangle_passes : (d : Data) → Passes is_rectangle (rect_of d)
+unfolding rect_of
+rectangle_passes d =
+    tested_holds (passed is_rectangle) (has_items 4 d) _ (λ _.
+    coordinate_holds (passed is_rectangle) 0 d _ (λ left l.
+    coordinate_holds (passed is_rectangle) 1 d _ (λ top t.
+    coordinate_holds (passed is_rectangle) 2 d _ (λ right r.
+    coordinate_holds (passed is_rectangle) 3 d _ (λ bottom b. and_from _ _ (and_from _ _ (and_from _ _ l t) r) b)))))
+
+point_passes : (d : Data) → Passes is_point (point_of d)
+unfolding point_of
+point_passes d =
+    tested_holds (passed is_point) (has_items 2 d) _ (λ _.
+    coordinate_holds (passed is_point) 0 d _ (λ x hx.
+    coordinate_holds (passed is_point) 1 d _ (λ y hy. and_from _ _ hx hy)))
+
+-- what was decoded is bytes
+ok_bytes : (r : Result (List ℕ) FromHexError) → ((bytes : List ℕ) → r ≡ Ok bytes → IsBytes bytes) → IfSome (result_ok r) IsBytes
+ok_bytes (Ok bytes) h = h bytes refl
+ok_bytes (Err e) h = tt
+
+err_first : (b : Bool) (e : FromHexError) (r : Result (List ℕ) FromHexError)
+    → IfSome (result_ok r) IsBytes → IfSome (result_ok (cond b (Err e) r)) IsBytes
+err_first true e r h = tt
+err_first false e r h = h
+
+err_last : (b : Bool) (e : FromHexError) (r : Result (List ℕ) FromHexError)
+    → IfSome (result_ok r) IsBytes → IfSome (result_ok (cond b r (Err e))) IsBytes
+err_last true e r h = h
+err_last false e r h = tt
+
+decoded_pairs : (text : List ℕ) → IfSome (result_ok (decode_pairs 0 text)) IsBytes
+decoded_pairs text = ok_bytes (decode_pairs 0 text) (λ bytes e. (decode_pairs-ok 0 text bytes e).2)
+
+-- what was decoded of a text of any length, and of one of n bytes
+all_bytes : (text : List ℕ) → IfSome (result_ok (decode_of text)) IsBytes
+all_bytes text = err_first (length text % 2 == 1) OddLength (decode_pairs 0 text) (decoded_pairs text)
+
+sized_bytes : (text : List ℕ) (n : ℕ) → IfSome (result_ok (decode_sized text n)) IsBytes
+sized_bytes text n =
+    let pairs = err_last (length text / 2 == n) InvalidStringLength (decode_pairs 0 text) (decoded_pairs text) in
+    err_first (length text % 2 == 1) OddLength (cond (length text / 2 == n) (decode_pairs 0 text) (Err InvalidStringLength)) pairs
+
+colour_passes_from : (bytes : List ℕ) → IsBytes bytes → is_colour (from_be_bytes w32 (0 ∷ bytes)) ≡ true
+colour_passes_from bytes h =
+    let red = h 0 in
+    let green = h 1 in
+    let blue = h 2 in
+    lt-ltb _ _ (omega arith)
+
+colour_passes : (d : Data) → Passes is_colour (colour_of d)
+unfolding colour_of
+colour_passes d =
+    always_holds (passed is_colour) (as_str d) _ (λ text.
+    then_holds IsBytes (passed is_colour) (result_ok (decode_sized text 3)) _ (sized_bytes text 3) colour_passes_from)
+
+colours_pass_at : (bytes : List ℕ) → IsBytes bytes → (places : List ℕ) → list_all is_colour (map (colour_at bytes) places) ≡ true
+colours_pass_at bytes h [] = refl
+colours_pass_at bytes h (i ∷ places) =
+    let red = h (3 * i) in
+    let green = h (3 * i + 1) in
+    let blue = h (3 * i + 2) in
+    and_from _ _ (lt-ltb _ _ (omega arith)) (colours_pass_at bytes h places)
+
+colours_pass : (d : Data) → Passes (list_all is_colour) (colours_of d)
+unfolding colours_of colours_from
+colours_pass d =
+    always_holds (passed (list_all is_colour)) (as_str d) _ (λ text.
+    then_holds IsBytes (passed (list_all is_colour)) (result_ok (decode_of text)) _ (all_bytes text) (λ bytes h.
+    tested_holds (passed (list_all is_colour)) (length bytes % 3 == 0) (Some (colours_in bytes)) (λ _.
+    colours_pass_at bytes h (range_with_len 0 (length bytes / 3)))))
+
+fill_passes : (d : Data) → Passes is_operation (fill_of d)
+unfolding fill_of
+fill_passes d =
+    key_holds (passed is_rectangle) (passed is_operation) (codes "fill") d rect_of _ rectangle_passes (λ r hr.
+    key_holds (passed is_colour) (passed is_operation) (codes "colour") d colour_of _ colour_passes (λ c hc. and_from _ _ hr hc))
+
+blit_passes : (d : Data) → Passes is_operation (blit_of d)
+unfolding blit_of
+blit_passes d =
+    key_holds (passed is_rectangle) (passed is_operation) (codes "blit") d rect_of _ rectangle_passes (λ r hr.
+    key_holds (passed (list_all is_colour)) (passed is_operation) (codes "colours") d colours_of _ colours_pass (λ cs hc. and_from _ _ hr hc))
+
+scroll_passes : (d : Data) → Passes is_operation (scroll_of d)
+unfolding scroll_of
+scroll_passes d =
+    key_holds (passed is_rectangle) (passed is_operation) (codes "scroll") d rect_of _ rectangle_passes (λ r hr.
+    key_holds (passed is_point) (passed is_operation) (codes "from") d point_of _ point_passes (λ p hp. and_from _ _ hp hr))
+
+operation_passes : (d : Data) → Passes is_operation (operation_of d)
+unfolding operation_of
+operation_passes d =
+    let fills : Bool = is_some (get (codes "fill") d) in
+    let blits : Bool = is_some (get (codes "blit") d) in
+    let others = either_holds (passed is_operation) blits (blit_of d) (scroll_of d) (blit_passes d) (scroll_passes d) in
+    tested_holds (passed is_operation) (has_keys 2 d) _ (λ _.
+    either_holds (passed is_operation) fills (fill_of d) (cond blits (blit_of d) (scroll_of d)) (fill_passes d) others)
+
+-- few operations, each of which passes
+abbrev are_operations : List Op → Bool
+are_operations ops = nat_le (length ops) MAX_OPS && list_all is_operation ops
+
+operations_pass : (d : Data) → Passes are_operations (operations_of d)
+unfolding operations_of
+operations_pass d =
+    always_holds (passed are_operations) (list_of d) _ (λ ds.
+    tested_holds (passed are_operations) (nat_le (length ds) MAX_OPS) (each operation_of ds) (λ few.
+    IfSome_then (each operation_of ds) (each_passes operation_of is_operation operation_passes ds) (λ ops both.
+    and_from _ _ (ap (λ n. nat_le n MAX_OPS) both.0 ∙ few) both.1)))
+
+drawing_passes : (d : Data) → Passes is_drawing (draw_of d)
+unfolding draw_of
+drawing_passes d =
+    tested_holds (passed is_drawing) (has_keys 1 d) _ (λ _.
+    key_holds (passed are_operations) (passed is_drawing) (codes "present") d operations_of _ operations_pass (λ ops h. h))
+
+-- ---- steps
+
+named_passes : (name : List ℕ) → Passes is_call (call_named name)
+unfolding call_named
+named_passes name =
+    let names : List ℕ → Bool = bytes_eq name in
+    let surface : Option ClientCall = cond (names (codes "surface")) (Some Surface) None in
+    let release : Option ClientCall = cond (names (codes "release")) (Some Release) surface in
+    let acquire : Option ClientCall = cond (names (codes "acquire")) (Some (Acquire 0)) release in
+    either_holds (passed is_call) (names (codes "duplicate")) (Some Duplicate) acquire refl
+    (either_holds (passed is_call) (names (codes "acquire")) (Some (Acquire 0)) release refl
+    (either_holds (passed is_call) (names (codes "release")) (Some Release) surface refl
+    (either_holds (passed is_call) (names (codes "surface")) (Some Surface) None refl tt)))
+
+call_passes : (d : Data) → Passes is_step (call_of d)
+unfolding call_of
+call_passes d =
+    tested_holds (passed is_step) (has_keys 2 d) _ (λ _.
+    key_holds (passed is_number) (passed is_step) (codes "client") d u32_of _ number_passes (λ client hk.
+    always_holds (passed is_step) (option_and_then as_str (get (codes "call") d)) _ (λ name.
+    then_holds (passed is_call) (passed is_step) (call_named name) _ (named_passes name) (λ call hc. and_from _ _ hk hc))))
+
+step_passes : (d : Data) → Passes is_step (step_of d)
+unfolding step_of
+step_passes d =
+    let drawn = map_holds (passed is_drawing) (passed is_step) (draw_of d) Draw (drawing_passes d) (λ drawing h. h) in
+    let calls : Bool = is_some (get (codes "client") d) in
+    either_holds (passed is_step) calls (call_of d) (option_map Draw (draw_of d)) (call_passes d) drawn
+
+steps_pass : (d : Data) → Passes (list_all is_step) (steps_of d)
+unfolding steps_of
+steps_pass d = list_passes step_of is_step step_passes d
+
+-- ---- the output
+
+modes_pass : (d : Data) → Passes are_modes (modes_of d)
+unfolding modes_of
+modes_pass d =
+    always_holds (passed are_modes) (option_and_then (each mode_of) (list_of d)) _ (λ modes.
+    tested_holds (passed are_modes) (are_modes modes) (Some modes) (λ h. h))
+
+apps_pass : (d : Data) → Passes (list_all is_number) (apps_of d)
+unfolding apps_of
+apps_pass d = list_passes u32_of is_number number_passes d
+
+-- ---- the script
+
+-- each part is in its range
+abbrev pub parts_in_range : Script → Bool
+parts_in_range s =
+    are_modes s.spec.modes && is_number s.spec.capacity && list_all is_number s.spec.privileged && list_all is_number s.clients
+    && list_all is_step s.steps
+
+parts_pass : (d : Data) → Passes parts_in_range (parts_of d)
+unfolding parts_of
+parts_pass d =
+    let passes : Script → Type 0 = passed parts_in_range in
+    tested_holds passes (has_keys 5 d) _ (λ _.
+    key_holds (passed are_modes) passes (codes "modes") d modes_of _ modes_pass (λ modes m.
+    key_holds (passed is_number) passes (codes "capacity") d u32_of _ number_passes (λ capacity n.
+    key_holds (passed (list_all is_number)) passes (codes "privileged") d apps_of _ apps_pass (λ privileged p.
+    key_holds (passed (list_all is_number)) passes (codes "clients") d apps_of _ apps_pass (λ clients c.
+    key_holds (passed (list_all is_step)) passes (codes "steps") d steps_of _ steps_pass (λ steps t.
+    and_from _ _ (and_from _ _ (and_from _ _ (and_from _ _ m n) p) c) t))))))
+
+script_passes : (d : Data) → Passes is_readable (script_of d)
+unfolding script_of is_readable
+script_passes d =
+    then_holds (passed parts_in_range) (passed is_readable) (parts_of d) _ (parts_pass d) (λ s h.
+    tested_holds (passed is_readable) (keeps_limits s && has_one_duplicator s) (Some s) (λ k.
+    let both = and_parts (keeps_limits s) (has_one_duplicator s) k in
+    and_from _ _ (and_from _ _ h both.0) both.1))
+
+-- a script that some tree is
+pub is_read : (d : Data) (s : Script) → script_of d ≡ Some s → is_readable s ≡ true
+is_read d s e =
+    let P : Option Script → Type 0 = λ o. IfSome o (passed is_readable) in
+    subst P e (script_passes d)

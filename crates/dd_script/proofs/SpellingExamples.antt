@@ -1,0 +1,87 @@
+-- The limits as numbers, and the text of some trees that scripts have of their own.
+use Rattle.std.proofs.Common.{◌≡◌, ◌^◌, [], ◌∷◌, ℕ, true, false, codes, refl, pos, negsuc, map, replicate}
+use Rattle.std.specs.Fmt.{digits}
+use Rattle.hex.specs.Hex.{encode_with}
+use Rattle.serde_json.specs.Written.{compact_text}
+use Rattle.serde_json.proofs.OnLiterals.{serde_json_on_literals}
+use Rattle.dd_modes.specs.declared.modes.Rotation.TheVariants.{Identity}
+use Rattle.dd_modes.specs.declared.modes.TheConstants.{MAX_MODES}
+use Rattle.dd_ops.specs.declared.operations.Op.TheVariants.{Fill, Blit, Scroll}
+use Rattle.dd_ops.specs.declared.operations.TheConstants.{COLOURS}
+use Rattle.dd_ops.specs.declared.lists.TheConstants.{MAX_OPS}
+use Rattle.dd_log.specs.declared.events.Draw.TheVariants.{Present}
+use Rattle.dd_log.specs.declared.events.TheConstants.{MAX_CAPACITY}
+use Rattle.dd_station.specs.declared.steps.ClientCall.TheVariants.{Duplicate, Acquire, Release, Surface}
+use Rattle.dd_station.specs.declared.steps.Step.TheVariants.{Draw, Call}
+use Rattle.dd_station.specs.declared.steps.Script.{Script}
+use Rattle.dd_station.specs.declared.steps.TheConstants.{MAX_CLIENTS}
+use Rattle.dd_script.specs.declared.reading.limits.TheConstants.{MAX_PRIVILEGED}
+use Rattle.dd_script.specs.Answers.{point_tree, rect_tree, row_digits}
+use Rattle.dd_script.specs.Script.{keeps_limits}
+use Rattle.dd_script.specs.Spelling.{op_tree, draw_tree, step_tree, mode_tree, spelling}
+
+-- ---- limits
+
+greatest_capacity : MAX_CAPACITY ≡ 1048576
+greatest_capacity = refl
+
+most_clients : MAX_CLIENTS ≡ 16
+most_clients = refl
+
+most_privileged : MAX_PRIVILEGED ≡ 16
+most_privileged = refl
+
+most_modes : MAX_MODES ≡ 16
+most_modes = refl
+
+most_operations : MAX_OPS ≡ 64
+most_operations = refl
+
+colours : COLOURS ≡ 2 ^ 24
+colours = refl
+
+-- a script with so many applications of each kind, of this capacity and with one step of a client
+abbrev counted : ℕ → ℕ → ℕ → ℕ → Script
+counted capacity privileged clients client =
+    record {
+      spec = record { modes = record { width = 1; height = 1; rotation = Identity } ∷ []; capacity = capacity; privileged = replicate privileged 1 };
+      clients = replicate clients 1;
+      steps = Call client Duplicate ∷ [];
+    }
+
+all_at_the_greatest : keeps_limits (counted 1048576 16 16 16) ≡ true
+unfolding keeps_limits
+all_at_the_greatest = refl
+
+all_at_the_least : keeps_limits (counted 1 0 1 1) ≡ true
+unfolding keeps_limits
+all_at_the_least = refl
+
+-- each limit passed by one
+past_a_limit : map keeps_limits
+    (counted 0 0 1 1 ∷ counted 1048577 0 1 1 ∷ counted 1 17 1 1 ∷ counted 1 0 0 1 ∷ counted 1 0 17 1 ∷ counted 1 0 1 0 ∷ counted 1 0 1 2 ∷ [])
+    ≡ replicate 7 false
+unfolding keeps_limits
+past_a_limit = refl
+
+-- ---- texts
+
+-- a script that names each kind of operation and each call
+abbrev each_kind : Script
+each_kind =
+    record {
+      spec = record { modes = record { width = 4; height = 3; rotation = Identity } ∷ []; capacity = 100; privileged = 7 ∷ [] };
+      clients = 1 ∷ 4294967295 ∷ [];
+      steps = Call 1 Duplicate
+          ∷ Draw (Present
+          (Fill (record { left = pos 1; top = pos 2; right = pos 3; bottom = pos 4 }) 0xff8001
+          ∷ Blit (record { left = negsuc 4; top = pos 7; right = pos 9; bottom = pos 8 }) (255 ∷ 0x010203 ∷ [])
+          ∷ Scroll (record { source = record { x = pos 5; y = pos 6 }; dest = record { left = pos 1; top = pos 0; right = pos 2; bottom = pos 9 } })
+          ∷ []))
+          ∷ Call 2 (Acquire 0) ∷ Call 1 Release ∷ Call 1 Surface ∷ [];
+    }
+
+text_of_each_kind : compact_text (spelling each_kind)
+    ≡ codes "{\"capacity\":100,\"clients\":[1,4294967295],\"modes\":[[4,3,1]],\"privileged\":[7],\"steps\":[{\"call\":\"duplicate\",\"client\":1},{\"present\":[{\"colour\":\"ff8001\",\"fill\":[1,2,3,4]},{\"blit\":[-5,7,9,8],\"colours\":\"0000ff010203\"},{\"from\":[5,6],\"scroll\":[1,0,2,9]}]},{\"call\":\"acquire\",\"client\":2},{\"call\":\"release\",\"client\":1},{\"call\":\"surface\",\"client\":1}]}"
+unfolding spelling mode_tree step_tree draw_tree op_tree rect_tree point_tree row_digits encode_with digits serde_json_on_literals
+text_of_each_kind = refl
