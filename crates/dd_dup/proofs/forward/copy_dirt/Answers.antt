@@ -4,7 +4,9 @@ use Rattle.dd_dup.proofs.forward.copy_dirt.Goals as goal
 
 pub loop-rect-preserved : goal.loop-rect-preserved
 loop-rect-preserved c = (
-  c.take.ensures.taken ∙ copied_more c.args.surface.now c.loop-rect.surface c.args.rects.now c.args.picture.now c.loop-rect.rect-index _ c.loop-rect-test.true c.loop-rect.invariant.0,
+  c.take.ensures.taken
+      ∙ copied_more c.args.surface.now c.loop-rect.surface c.args.rects.now c.args.picture.now c.loop-rect.rect-index
+      _ c.loop-rect-test.true c.loop-rect.invariant.0,
   c.take.ensures.width ∙ c.loop-rect.invariant.1,
   c.take.ensures.height ∙ c.loop-rect.invariant.2,
 )
