@@ -30,17 +30,20 @@ use Rattle.dd_dup.proofs.Entries.{presents-fit, shown-presents}
 use Rattle.dd_dup.proofs.Copies.{copied_each-copied}
 
 -- one of the rectangles has a point exactly where the set does
-any_step : (here b later : Bool) (n : ℕ) → ((c : Bool) → n ≡ (if c then 1 else 0) → later ≡ c) → cond here 1 0 + n ≡ (if b then 1 else 0) → (here || later) ≡ b
+any_step : (here b later : Bool) (n : ℕ) → ((c : Bool) → n ≡ (if c then 1 else 0) → later ≡ c)
+    → cond here 1 0 + n ≡ (if b then 1 else 0) → (here || later) ≡ b
 any_step true true later n ih e = refl
 any_step true false later n ih e = absurd (omega arith)
 any_step false true later n ih e = ih true (omega arith)
 any_step false false later n ih e = ih false (omega arith)
 
-any_from_count : (p : Rect → Bool) (xs : List Rect) (b : Bool) → count_by p xs ≡ (if b then 1 else 0) → list_any p xs ≡ b
+any_from_count : (p : Rect → Bool) (xs : List Rect) (b : Bool) → count_by p xs ≡ (if b then 1 else 0)
+    → list_any p xs ≡ b
 any_from_count p [] true e = let f : 0 ≡ 1 = e in absurd (omega (arith, f))
 any_from_count p [] false e = refl
 any_from_count p (x ∷ xs) b e =
-    any_step (p x) b (list_any p xs) (count_by p xs) (any_from_count p xs) (sym (sum_by-cons (λ y. cond (p y) 1 0) x xs) ∙ e)
+    any_step (p x) b (list_any p xs) (count_by p xs) (any_from_count p xs)
+    (sym (sum_by-cons (λ y. cond (p y) 1 0) x xs) ∙ e)
 
 any_has-list : (g : Grid Bool) (x y : ℕ) → any_has (canonical_list g) x y ≡ is_in g x y
 any_has-list g x y = any_from_count (λ r. has r x y) (canonical_list g) (is_in g x y) (count_by-canonical_list g x y)
@@ -51,26 +54,32 @@ unfolding dirt_of
 All-dirt_of w h es =
     let g : Grid Bool = dirt w h (presents es) in
     subst (λ (n : ℕ). All (λ r. IsTrue (is_inside r n h)) (canonical_list g)) (width-dirt w h (presents es))
-    (subst (λ (n : ℕ). All (λ r. IsTrue (is_inside r g.width n)) (canonical_list g)) (height-dirt w h (presents es)) (All-canonical_list g))
+    (subst (λ (n : ℕ). All (λ r. IsTrue (is_inside r g.width n)) (canonical_list g)) (height-dirt w h (presents es))
+    (All-canonical_list g))
 
 -- each move lies inside
-All-moves_in : (w h : ℕ) (es : List Effect) → list_all (effect_fits w h) es ≡ true → All (λ m. IsTrue (is_move_inside m w h)) (moves_in es)
+All-moves_in : (w h : ℕ) (es : List Effect) → list_all (effect_fits w h) es ≡ true
+    → All (λ m. IsTrue (is_move_inside m w h)) (moves_in es)
 All-moves_in w h [] t = All-nil (λ m. IsTrue (is_move_inside m w h))
 All-moves_in w h (over r ∷ es) t = All-moves_in w h es t
 All-moves_in w h (shifted m ∷ es) t =
     let both = and_parts (is_move_inside m w h) (list_all (effect_fits w h) es) t in
     All-cons (λ n. IsTrue (is_move_inside n w h)) m (moves_in es) both.0 (All-moves_in w h es both.1)
 
-pub All-moves_of : (w h : ℕ) (es : List Entry) → entries_fit w h es ≡ true → All (λ m. IsTrue (is_move_inside m w h)) (moves_of es)
+pub All-moves_of : (w h : ℕ) (es : List Entry) → entries_fit w h es ≡ true
+    → All (λ m. IsTrue (is_move_inside m w h)) (moves_of es)
 unfolding moves
-All-moves_of w h es fit = All-moves_in w h (all_effects (presents es)) (each-fit w h 0 (presents es) (presents-fit w h es fit))
+All-moves_of w h es fit =
+    All-moves_in w h (all_effects (presents es)) (each-fit w h 0 (presents es) (presents-fit w h es fit))
 
 -- a surface that was moved has its size, and a colour for each point
-whole-moved : (ms : List Move) (s : Grid ℕ) → length s.cells ≡ s.width * s.height → length (all_moved s ms).cells ≡ (all_moved s ms).width * (all_moved s ms).height
+whole-moved : (ms : List Move) (s : Grid ℕ) → length s.cells ≡ s.width * s.height
+    → length (all_moved s ms).cells ≡ (all_moved s ms).width * (all_moved s ms).height
 whole-moved [] s whole = whole
 whole-moved (m ∷ ms) s whole =
     whole-moved ms (moved s m)
-    (length-cells s.width s.height (λ x y. if has m.dest x y then value_at 0 s (source_x m x) (source_y m y) else value_at 0 s x y))
+    (length-cells s.width s.height
+    (λ x y. if has m.dest x y then value_at 0 s (source_x m x) (source_y m y) else value_at 0 s x y))
 
 pub width-shown : (p : Grid Cell) (es : List Entry) → (shown p es).width ≡ p.width
 width-shown p es = ap (λ (q : Grid Cell). q.width) (shown-presents es p) ∙ width-presents (presents es) p
@@ -79,7 +88,8 @@ pub height-shown : (p : Grid Cell) (es : List Entry) → (shown p es).height ≡
 height-shown p es = ap (λ (q : Grid Cell). q.height) (shown-presents es p) ∙ height-presents (presents es) p
 
 -- the rectangles have each point that was drawn afresh
-has_drawn : (w h : ℕ) (ps : List (List Op)) → presents_fit w h ps ≡ true → HasDrawn w h ps (canonical_list (dirt w h ps))
+has_drawn : (w h : ℕ) (ps : List (List Op)) → presents_fit w h ps ≡ true
+    → HasDrawn w h ps (canonical_list (dirt w h ps))
 has_drawn w h ps fit x y across down t = any_has-list (dirt w h ps) x y ∙ drawn-dirt w h ps x y fit across down t
 
 -- the moves drawn, and the dirty points copied from the newer surface
@@ -117,7 +127,8 @@ pub reached-news :
     → any_has (dirt_of w h es) x y ≡ true → any_reaches (presents es) x y ≡ true
 unfolding dirt_of
 reached-news w h es x y exact fit t =
-    (honest w h (presents es) (presents-fit w h es fit)).reached exact x y (sym (any_has-list (dirt w h (presents es)) x y) ∙ t)
+    (honest w h (presents es) (presents-fit w h es fit)).reached exact x y
+    (sym (any_has-list (dirt w h (presents es)) x y) ∙ t)
 
 -- and the dirty rectangles are those of what all effects draw afresh
 pub exact-news :

@@ -1,6 +1,6 @@
 -- Entries one after another: what one more adds to the presents, the picture and what is gathered.
-use Rattle.std.proofs.Common.{◌≡◌, ℕ, zero, suc, ◌+◌, ◌<◌, ◌≤◌, Bool, true, false, List, [], ◌∷◌, ◌++◌, length, take, drop, get_or, Option, Some, None, refl, sym, ap, ◌∙◌, append-nil, arith, length-append, if◌then◌else◌}
-use Rattle.std.specs.Prelude.{filter_map, is_some, option_map, IsSome}
+use Rattle.std.proofs.Common.{◌≡◌, ℕ, ◌+◌, ◌<◌, ◌≤◌, true, List, [], ◌∷◌, ◌++◌, length, take, drop, get_or, Option, Some, None, refl, sym, ap, ◌∙◌, append-nil, arith, length-append, if◌then◌else◌}
+use Rattle.std.specs.Prelude.{is_some, option_map, IsSome}
 use Rattle.std.specs.List.{fold, cons_option}
 use Rattle.std.proofs.lemmas.Bool.{and_parts, and_from}
 use Rattle.std.proofs.lemmas.List.{take_more, length-take, take-append-drop}
@@ -8,24 +8,23 @@ use Rattle.std.proofs.lemmas.List.Elements.{filter_map-append}
 use Rattle.std.proofs.lemmas.List.Sums.{AllPass-from_list_all, fold_push}
 use Rattle.dd_geom.specs.Grid.{Grid}
 use Rattle.dd_grid.specs.Cell.{Cell}
-use Rattle.dd_bits.specs.CanonicalList.{canonical_list}
 use Rattle.dd_ops.specs.declared.operations.Op.{Op}
-use Rattle.dd_ops.specs.Operations.{all_fit, drawn}
+use Rattle.dd_ops.specs.Operations.{drawn}
 use Rattle.dd_acc.specs.Effects.{dirt, is_coalesced, moves, presents_fit}
 use Rattle.dd_acc.specs.Interval.{Interval, nothing, with_present}
 use Rattle.dd_acc.proofs.Counting.{composes}
 use Rattle.dd_acc.proofs.Honest.{width-dirt, height-dirt}
 use Rattle.dd_log.specs.declared.events.Entry.{Entry}
-use Rattle.dd_log.specs.declared.events.Event.{Event}
 use Rattle.dd_log.specs.History.{present_of, present_fits, event_fits, entries_fit}
 use Rattle.dd_log.specs.Picture.{presents, drawn_if, shown, shown_after}
 use Rattle.dd_dup.specs.declared.frame.News.{News}
 use Rattle.dd_dup.specs.declared.news.Gathered.{Gathered}
-use Rattle.dd_dup.specs.News.{number_after, last_present, news_of, moves_of, dirt_of, where_any}
+use Rattle.dd_dup.specs.News.{number_after, last_present, news_of, dirt_of, where_any}
 use Rattle.dd_dup.specs.Walk.{interval_of, gathered_next, gathered_of, gathered, news_from}
 
 -- the entry at a place joins those before it
-take_item : (es : List Entry) (k : ℕ) (e : Entry) → k < length es → e ≡ get_or es k e → take (k + 1) es ≡ take k es ++ e ∷ []
+take_item : (es : List Entry) (k : ℕ) (e : Entry) → k < length es → e ≡ get_or es k e
+    → take (k + 1) es ≡ take k es ++ e ∷ []
 take_item es k e k_in is = take_more es k e k_in ∙ ap (λ x. take k es ++ x ∷ []) (sym is)
 
 -- the presents of lists one after the other
@@ -60,14 +59,21 @@ length-cons_option (Some ops) ps = omega arith
 pub length-presents : (es : List Entry) → length (presents es) ≤ length es
 length-presents [] = omega (arith, ap length presents_none)
 length-presents (e ∷ es) =
-    omega (arith, ap length (presents-cons e es), length-cons_option (present_of e.event) (presents es), length-presents es)
+    omega (
+      arith,
+      ap length (presents-cons e es),
+      length-cons_option (present_of e.event)
+          (presents es),
+      length-presents es,
+    )
 
 -- a present among the entries is one of their presents
 one_at_least : (o : Option (List Op)) → is_some o ≡ true → 1 ≤ length (cons_option o [])
 one_at_least None t = cc
 one_at_least (Some ops) t = omega arith
 
-pub some_present : (es : List Entry) (k : ℕ) (e : Entry) → k < length es → e ≡ get_or es k e → IsSome (present_of e.event) → 1 ≤ length (presents es)
+pub some_present : (es : List Entry) (k : ℕ) (e : Entry) → k < length es → e ≡ get_or es k e
+    → IsSome (present_of e.event) → 1 ≤ length (presents es)
 some_present es k e k_in is t =
     let more : List (List Op) = cons_option (present_of e.event) [] in
     let before : List Entry = take (k + 1) es in
@@ -78,7 +84,8 @@ some_present es k e k_in is t =
     let joined = length-append (presents (take k es)) more in
     omega (arith, split, longer, here, joined, one_at_least (present_of e.event) t)
 
-pub shown_more : (p q : Grid Cell) (es : List Entry) (k : ℕ) (e : Entry) → k < length es → e ≡ get_or es k e → q ≡ shown p (take k es)
+pub shown_more : (p q : Grid Cell) (es : List Entry) (k : ℕ) (e : Entry) → k < length es → e ≡ get_or es k e
+    → q ≡ shown p (take k es)
     → shown_after q e.event ≡ shown p (take (k + 1) es)
 shown_more p q es k e k_in is so_far =
     ap (λ g. shown_after g e.event) so_far
@@ -86,12 +93,15 @@ shown_more p q es k e k_in is so_far =
     ∙ ap (shown p) (sym (take_item es k e k_in is))
 
 -- each entry of a list that fits does
-pub fit_item : (w h : ℕ) (es : List Entry) (k : ℕ) (e : Entry) → entries_fit w h es ≡ true → k < length es → e ≡ get_or es k e → event_fits w h e.event ≡ true
+pub fit_item : (w h : ℕ) (es : List Entry) (k : ℕ) (e : Entry) → entries_fit w h es ≡ true → k < length es
+    → e ≡ get_or es k e → event_fits w h e.event ≡ true
 unfolding entries_fit
-fit_item w h es k e t k_in is = ap (λ (x : Entry). event_fits w h x.event) is ∙ AllPass-from_list_all (λ (x : Entry). event_fits w h x.event) es t k e k_in
+fit_item w h es k e t k_in is = ap (λ (x : Entry). event_fits w h x.event) is
+    ∙ AllPass-from_list_all (λ (x : Entry). event_fits w h x.event) es t k e k_in
 
 -- the last present of entries one after another
-last-push : (xs : List Entry) (e : Entry) (last place n : ℕ) → n ≡ place + length xs → last_present last place (xs ++ e ∷ []) ≡ number_after (last_present last place xs) n e.event
+last-push : (xs : List Entry) (e : Entry) (last place n : ℕ) → n ≡ place + length xs
+    → last_present last place (xs ++ e ∷ []) ≡ number_after (last_present last place xs) n e.event
 last-push [] e last place n is = ap (λ k. number_after last k e.event) (omega arith)
 last-push (x ∷ xs) e last place n is = last-push xs e (number_after last place x.event) (place + 1) n (omega arith)
 
@@ -103,18 +113,22 @@ last_more es place k e k_in is =
 
 -- one present more is gathered
 gathered-push : (w h : ℕ) (ps : List (List Op)) (last number : ℕ) (o : Option (List Op))
-    → gathered_next w h (gathered_of w h ps last) number o ≡ gathered_of w h (ps ++ cons_option o []) (if is_some o then number else last)
+    → gathered_next w h (gathered_of w h ps last) number o ≡ gathered_of w h (ps ++ cons_option o [])
+    (if is_some o then number else last)
 gathered-push w h ps last number None = ap (λ qs. gathered_of w h qs last) (sym (append-nil ps))
 gathered-push w h [] last number (Some ops) = refl
 gathered-push w h (p ∷ ps) last number (Some ops) =
-    ap (λ (i : Interval). Some (record { acc = i; last = number })) (sym (fold_push with_present (nothing w h) (p ∷ ps) ops))
+    ap (λ (i : Interval). Some (record { acc = i; last = number }))
+    (sym (fold_push with_present (nothing w h) (p ∷ ps) ops))
 
 pub gathered_none : (w h place : ℕ) → gathered w h place [] ≡ None
 unfolding gathered presents
 gathered_none w h place = refl
 
-pub gathered_more : (w h place k number : ℕ) (es : List Entry) (e : Entry) (so_far : Option Gathered) → k < length es → e ≡ get_or es k e → number ≡ place + k + 1
-    → so_far ≡ gathered w h place (take k es) → gathered_next w h so_far number (present_of e.event) ≡ gathered w h place (take (k + 1) es)
+pub gathered_more : (w h place k number : ℕ) (es : List Entry) (e : Entry) (so_far : Option Gathered) → k < length es
+    → e ≡ get_or es k e → number ≡ place + k + 1
+    → so_far ≡ gathered w h place (take k es)
+    → gathered_next w h so_far number (present_of e.event) ≡ gathered w h place (take (k + 1) es)
 unfolding gathered
 gathered_more w h place k number es e so_far k_in is numbered is_so_far =
     let ps : List (List Op) = presents (take k es) in
@@ -134,22 +148,35 @@ interval_is : (w h : ℕ) (ps : List (List Op)) (last : ℕ) → interval_of w h
 interval_is w h [] last = composes w h []
 interval_is w h (p ∷ ps) last = composes w h (p ∷ ps)
 
-gathered_is : (w h place : ℕ) (es : List Entry) (so_far : Option Gathered) → so_far ≡ gathered w h place es → interval_of w h so_far ≡ interval w h (presents es)
+gathered_is : (w h place : ℕ) (es : List Entry) (so_far : Option Gathered) → so_far ≡ gathered w h place es
+    → interval_of w h so_far ≡ interval w h (presents es)
 unfolding gathered
 gathered_is w h place es so_far is = ap (interval_of w h) is ∙ interval_is w h (presents es) (last_present 0 place es)
 
-pub width-gathered : (w h place : ℕ) (es : List Entry) (so_far : Option Gathered) → so_far ≡ gathered w h place es → (interval_of w h so_far).area.width ≡ w
-width-gathered w h place es so_far is = ap (λ (i : Interval). i.area.width) (gathered_is w h place es so_far is) ∙ width-dirt w h (presents es)
+pub width-gathered : (w h place : ℕ) (es : List Entry) (so_far : Option Gathered) → so_far ≡ gathered w h place es
+    → (interval_of w h so_far).area.width ≡ w
+width-gathered w h place es so_far is = ap (λ (i : Interval). i.area.width) (gathered_is w h place es so_far is)
+    ∙ width-dirt w h (presents es)
 
-pub height-gathered : (w h place : ℕ) (es : List Entry) (so_far : Option Gathered) → so_far ≡ gathered w h place es → (interval_of w h so_far).area.height ≡ h
-height-gathered w h place es so_far is = ap (λ (i : Interval). i.area.height) (gathered_is w h place es so_far is) ∙ height-dirt w h (presents es)
+pub height-gathered : (w h place : ℕ) (es : List Entry) (so_far : Option Gathered) → so_far ≡ gathered w h place es
+    → (interval_of w h so_far).area.height ≡ h
+height-gathered w h place es so_far is = ap (λ (i : Interval). i.area.height) (gathered_is w h place es so_far is)
+    ∙ height-dirt w h (presents es)
 
-pub few_frames : (w h place k n : ℕ) (es : List Entry) (so_far : Option Gathered) → k ≤ n → so_far ≡ gathered w h place (take k es) → (interval_of w h so_far).frames ≤ n
+pub few_frames : (w h place k n : ℕ) (es : List Entry) (so_far : Option Gathered) → k ≤ n
+    → so_far ≡ gathered w h place (take k es) → (interval_of w h so_far).frames ≤ n
 few_frames w h place k n es so_far k_in is =
-    omega (arith, ap (λ (i : Interval). i.frames) (gathered_is w h place (take k es) so_far is), length-presents (take k es), length-take k es)
+    omega (
+      arith,
+      ap (λ (i : Interval). i.frames) (gathered_is w h place (take k es) so_far is),
+      length-presents
+          (take k es),
+      length-take k es,
+    )
 
 -- as news
-news_made : (w h place last : ℕ) (es : List Entry) (i : Interval) → last ≡ last_present 0 place es → i ≡ interval w h (presents es)
+news_made : (w h place last : ℕ) (es : List Entry) (i : Interval) → last ≡ last_present 0 place es
+    → i ≡ interval w h (presents es)
     → news_from (record { acc = i; last = last }) ≡ news_of w h place es
 unfolding news_of dirt_of
 news_made w h place last es i last_is is =
@@ -164,12 +191,14 @@ made_where w h place es (p ∷ ps) is =
     (news_made w h place (last_present 0 place es) es (fold with_present (nothing w h) (p ∷ ps)) refl
     (composes w h (p ∷ ps) ∙ ap (interval w h) (sym is)))
 
-pub gathered_news : (w h place : ℕ) (es : List Entry) → option_map news_from (gathered w h place es) ≡ where_any (presents es) (news_of w h place es)
+pub gathered_news : (w h place : ℕ) (es : List Entry)
+    → option_map news_from (gathered w h place es) ≡ where_any (presents es) (news_of w h place es)
 unfolding gathered
 gathered_news w h place es = made_where w h place es (presents es) refl
 
 -- the presents alone are drawn
-drawn_one : (p : Grid Cell) (o : Option (List Op)) (ps : List (List Op)) → fold drawn (drawn_if p o) ps ≡ fold drawn p (cons_option o ps)
+drawn_one : (p : Grid Cell) (o : Option (List Op)) (ps : List (List Op))
+    → fold drawn (drawn_if p o) ps ≡ fold drawn p (cons_option o ps)
 drawn_one p None ps = refl
 drawn_one p (Some ops) ps = refl
 
@@ -181,7 +210,8 @@ shown-presents (e ∷ es) p =
     ∙ ap (fold drawn p) (sym (presents-cons e es))
 
 -- entries that fit are presents that do
-fit_one : (w h : ℕ) (o : Option (List Op)) (ps : List (List Op)) → present_fits w h o ≡ true → presents_fit w h ps ≡ true → presents_fit w h (cons_option o ps) ≡ true
+fit_one : (w h : ℕ) (o : Option (List Op)) (ps : List (List Op)) → present_fits w h o ≡ true
+    → presents_fit w h ps ≡ true → presents_fit w h (cons_option o ps) ≡ true
 fit_one w h None ps f fs = fs
 fit_one w h (Some ops) ps f fs = and_from _ _ f fs
 

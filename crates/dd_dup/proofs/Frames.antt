@@ -1,5 +1,5 @@
 -- The frame that is made, and lists that begin with one that a duplicator stands on.
-use Rattle.std.proofs.Common.{◌≡◌, ℕ, zero, suc, ◌*◌, ◌<◌, ◌≤◌, Bool, true, false, List, [], ◌∷◌, length, take, drop, Option, Some, None, refl, sym, ap, ◌∙◌, subst, arith, if◌then◌else◌}
+use Rattle.std.proofs.Common.{◌≡◌, ℕ, zero, suc, ◌<◌, ◌≤◌, Bool, true, false, List, [], ◌∷◌, length, take, drop, Option, Some, None, refl, sym, ap, ◌∙◌, subst, arith, if◌then◌else◌}
 use Rattle.std.specs.Prelude.{slice_get}
 use Rattle.std.proofs.lemmas.List.Sums.{fold-append}
 use Rattle.std.proofs.lemmas.List.{take-append-drop, take_all, take-take}
@@ -12,31 +12,26 @@ use Rattle.dd_grid.specs.Drawing.{blank}
 use Rattle.dd_modes.specs.declared.modes.Mode.{Mode}
 use Rattle.dd_modes.specs.Modes.{first_mode}
 use Rattle.dd_log.specs.declared.events.Spec.{Spec}
-use Rattle.dd_log.specs.declared.answers.DupRefusal.{DupRefusal}
 use Rattle.dd_log.specs.declared.answers.DupRefusal.TheVariants.{InvalidCall, WaitTimeout}
-use Rattle.dd_geom.specs.declared.rect.Rect.{Rect}
-use Rattle.dd_geom.specs.declared.rect.Move.{Move}
-use Rattle.dd_geom.specs.Rect.{IsSize}
 use Rattle.dd_geom.specs.Grid.{Grid}
 use Rattle.dd_grid.specs.Cell.{Cell}
 use Rattle.dd_grid.specs.Drawing.{black, seen, any_hidden}
-use Rattle.dd_acc.specs.Effects.{dirt, is_coalesced}
-use Rattle.dd_bits.specs.CanonicalList.{canonical_list}
-use Rattle.dd_acc.specs.Interval.{Interval}
+use Rattle.dd_acc.specs.Effects.{is_coalesced}
 use Rattle.dd_log.specs.declared.events.Entry.{Entry}
-use Rattle.dd_log.specs.History.{History, Begins, first_entries, desk_mode, entries_fit, is_opening, opens_at, legal}
+use Rattle.dd_log.specs.History.{History, Begins, first_entries, desk_mode, entries_fit, is_opening, legal}
 use Rattle.dd_log.proofs.Legal.{legal-fit, entries_fit-drop}
 use Rattle.dd_acc.specs.Rebuild.{any_has, rebuild}
 use Rattle.dd_log.specs.Picture.{picture, view, shown, presents}
 use Rattle.dd_dup.specs.declared.frame.Frame.{Frame}
 use Rattle.dd_dup.specs.declared.frame.News.{News}
 use Rattle.dd_dup.specs.News.{frame, frame_from, news_of, news_since, moves_of, dirt_of, news, where_any}
-use Rattle.dd_dup.specs.Reply.{Memory, granted, with_frame, without_frame}
-use Rattle.dd_dup.specs.Duplicator.{Duplicator, holding, released, HeldRebuilds, IsReached, IsExactSince, FramesRebuild, FramesAreReached}
+use Rattle.dd_dup.specs.Reply.{Memory, granted, with_frame}
+use Rattle.dd_dup.specs.Duplicator.{Duplicator, holding, HeldRebuilds, IsExactSince, FramesRebuild, FramesAreReached}
 use Rattle.dd_dup.specs.Stands.{Stands, StandsOnceOpened}
 use Rattle.dd_dup.proofs.Advance.{width-shown, height-shown, rebuild-news, reached-news, exact-news}
 
-pub news-coalesced : (w h place : ℕ) (es : List Entry) → (news_of w h place es).coalesced ≡ is_coalesced w h (presents es)
+pub news-coalesced : (w h place : ℕ) (es : List Entry)
+    → (news_of w h place es).coalesced ≡ is_coalesced w h (presents es)
 unfolding news_of
 news-coalesced w h place es = refl
 
@@ -65,13 +60,17 @@ picture_forward h m =
     ∙ ap (shown (black (desk_mode h).width (desk_mode h).height)) (take-append-drop m h.entries)
 
 pub picture_all : (h : History) → picture h ≡ picture (first_entries (length h.entries) h)
-picture_all h = ap (λ es. picture (record { spec = h.spec; entries = es })) (sym (take_all (length h.entries) h.entries (omega arith)))
+picture_all h =
+    ap (λ es. picture (record { spec = h.spec; entries = es }))
+    (sym (take_all (length h.entries) h.entries (omega arith)))
 
 -- a list that begins with another has the same first entries
-pub first_entries_later : (h later : History) (m : ℕ) → Begins h later → m ≤ length h.entries → first_entries m later ≡ first_entries m h
+pub first_entries_later : (h later : History) (m : ℕ) → Begins h later → m ≤ length h.entries
+    → first_entries m later ≡ first_entries m h
 first_entries_later h later m begins m_in =
     ap (λ (s : Spec). record { spec = s; entries = take m later.entries }) begins.spec
-    ∙ ap (λ es. record { spec = h.spec; entries = es }) (sym (take-take m (length h.entries) later.entries m_in) ∙ ap (take m) begins.entries)
+    ∙ ap (λ es. record { spec = h.spec; entries = es })
+    (sym (take-take m (length h.entries) later.entries m_in) ∙ ap (take m) begins.entries)
 
 get_later : (es : List Entry) (k n : ℕ) → k < n → slice_get (take n es) k ≡ slice_get es k
 get_later es k zero k_in = absurd (omega arith)
@@ -108,7 +107,9 @@ stands_later d h later stands begins =
 
 -- a fresh duplicator's surface is what is seen of a black picture
 pub seen-black : (w h : ℕ) → blank w h ≡ seen (black w h)
-seen-black w h = grid_from_agree w h _ _ (λ x y across down. sym (ap seen_cell (value_at-grid (plain 0) w h (λ a b. plain 0) x y across down)))
+seen-black w h =
+    grid_from_agree w h _ _
+    (λ x y across down. sym (ap seen_cell (value_at-grid (plain 0) w h (λ a b. plain 0) x y across down)))
 
 black_at_first : (h : History) → picture (first_entries 0 h) ≡ black (desk_mode h).width (desk_mode h).height
 unfolding picture
@@ -123,11 +124,13 @@ opened_at place mode s p = record {
   mode = mode;
 }
 
-pub stands_fresh : (h : History) (place : ℕ) (mode : Mode) (s : Grid ℕ) (p : Grid Cell) → mode ≡ desk_mode h → s ≡ blank mode.width mode.height → p ≡ black mode.width mode.height
+pub stands_fresh : (h : History) (place : ℕ) (mode : Mode) (s : Grid ℕ) (p : Grid Cell) → mode ≡ desk_mode h
+    → s ≡ blank mode.width mode.height → p ≡ black mode.width mode.height
     → StandsOnceOpened (opened_at place mode s p) h
 stands_fresh h place mode s p mode_is s_is p_is later begins opens =
     let still : mode ≡ desk_mode later = mode_is ∙ ap (λ (c : Spec). first_mode c.modes) (sym begins.spec) in
-    let shows : p ≡ picture (first_entries 0 later) = p_is ∙ ap (λ (m : Mode). black m.width m.height) still ∙ sym (black_at_first later) in
+    let shows : p ≡ picture (first_entries 0 later) = p_is ∙ ap (λ (m : Mode). black m.width m.height) still
+    ∙ sym (black_at_first later) in
     record {
       opened = opens;
       marked = omega arith;
@@ -137,18 +140,22 @@ stands_fresh h place mode s p mode_is s_is p_is later begins opens =
     }
 
 -- what was granted is what was to be given
-granted_for : {A : Type 0} (m : Memory) (ps : List (List Op)) (given other : A) → (if is_some m.held then Err InvalidCall else ok_or (where_any ps given) WaitTimeout) ≡ Ok other → given ≡ other
+granted_for : {A : Type 0} (m : Memory) (ps : List (List Op)) (given other : A)
+    → (if is_some m.held then Err InvalidCall else ok_or (where_any ps given) WaitTimeout) ≡ Ok other → given ≡ other
 granted_for m ps given other e = by_held (is_some m.held) ps e where
-  by_held : (held : Bool) (ps : List (List Op)) → (if held then Err InvalidCall else ok_or (where_any ps given) WaitTimeout) ≡ Ok other → given ≡ other
+  by_held : (held : Bool) (ps : List (List Op))
+      → (if held then Err InvalidCall else ok_or (where_any ps given) WaitTimeout) ≡ Ok other → given ≡ other
   by_held true ps e = cc
   by_held false [] e = cc
   by_held false (p ∷ ps) e = cc
 
-pub granted_is : {A : Type 0} (m : Memory) (h : History) (given other : A) → granted m h given ≡ Ok other → given ≡ other
+pub granted_is : {A : Type 0} (m : Memory) (h : History) (given other : A) → granted m h given ≡ Ok other
+    → given ≡ other
 granted_is m h given other e = granted_for m (presents (news h m.mark)) given other e
 
 -- the frame that is made of what is new
-pub frame_made : (h : History) (mark : ℕ) (n : News) (p : Grid Cell) (protected : Bool) → n ≡ news_since h mark → p ≡ picture h → protected ≡ any_hidden p
+pub frame_made : (h : History) (mark : ℕ) (n : News) (p : Grid Cell) (protected : Bool) → n ≡ news_since h mark
+    → p ≡ picture h → protected ≡ any_hidden p
     → frame_from n protected ≡ frame h mark
 frame_made h mark n p protected n_is p_is hides =
     ap (λ (m : News). frame_from m protected) n_is
@@ -158,7 +165,8 @@ frame_made h mark n p protected n_is p_is hides =
 abbrev pub changed : Duplicator → ℕ → Frame → Grid ℕ → Grid Cell → Duplicator
 changed d mark f s p = record d { memory = with_frame d.memory mark f; surface = s; picture = p }
 
-pub holds : (d : Duplicator) (h : History) (mark : ℕ) (f : Frame) (s : Grid ℕ) (p : Grid Cell) → mark ≡ length h.entries → f ≡ frame h d.memory.mark → s ≡ view h → p ≡ picture h
+pub holds : (d : Duplicator) (h : History) (mark : ℕ) (f : Frame) (s : Grid ℕ) (p : Grid Cell)
+    → mark ≡ length h.entries → f ≡ frame h d.memory.mark → s ≡ view h → p ≡ picture h
     → changed d mark f s p ≡ holding d h
 holds d h mark f s p mark_is f_is s_is p_is =
     ap (λ n. changed d n f s p) mark_is
@@ -213,7 +221,8 @@ rebuilds h mark t =
     (subst (λ (n : ℕ). entries_fit w n es ≡ true) (sym high) fit))
     ∙ ap seen ahead)))
 
-pub rebuilds_held : (d : Duplicator) (h : History) → Stands d h → legal h ≡ true → HeldRebuilds d.surface (holding d h).memory.held (holding d h).surface
+pub rebuilds_held : (d : Duplicator) (h : History) → Stands d h → legal h ≡ true
+    → HeldRebuilds d.surface (holding d h).memory.held (holding d h).surface
 rebuilds_held d h stands t =
     ap (λ s. rebuild s (frame h d.memory.mark).moves (frame h d.memory.mark).dirt (view h)) stands.surface
     ∙ rebuilds h d.memory.mark t

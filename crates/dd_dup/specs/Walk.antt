@@ -1,5 +1,5 @@
 -- What private functions gather and copy: no public contract cites these words.
-use Rattle.std.specs.Prelude.{ℕ, if◌then◌else◌, List, fold, Option, Some, None}
+use Rattle.std.specs.Prelude.{ℕ, List, fold, Option, Some, None}
 use Rattle.dd_geom.specs.declared.rect.Rect.{Rect}
 use Rattle.dd_geom.specs.Grid.{Grid}
 use Rattle.dd_grid.specs.Cell.{Cell}

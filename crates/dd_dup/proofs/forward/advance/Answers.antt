@@ -15,7 +15,8 @@ move_all-requires c =
     let h = c.args.picture.now.height in
     subst (λ (n : ℕ). All (λ m. IsTrue (is_move_inside m n c.args.surface.now.height)) c.args.moves.now)
     (sym (ap (λ (s : Grid ℕ). s.width) seen_is))
-    (subst (λ (n : ℕ). All (λ m. IsTrue (is_move_inside m w n)) c.args.moves.now) (sym (ap (λ (s : Grid ℕ). s.height) seen_is))
+    (subst (λ (n : ℕ). All (λ m. IsTrue (is_move_inside m w n)) c.args.moves.now)
+    (sym (ap (λ (s : Grid ℕ). s.height) seen_is))
     (subst (λ (ms : List Move). All (λ m. IsTrue (is_move_inside m w h)) ms) (sym c.requires.moves)
     (All-moves_of w h c.args.entries.now c.requires.fit)))
 

@@ -1,11 +1,11 @@
-use Rattle.std.proofs.Common.{◌≡◌, ◌∙◌, sym, ap, subst, ℕ, true, drop}
+use Rattle.std.proofs.Common.{◌∙◌, sym, ap}
 use Rattle.dd_geom.specs.Grid.{Grid}
 use Rattle.dd_grid.specs.Cell.{Cell}
 use Rattle.dd_grid.specs.Drawing.{seen}
-use Rattle.dd_log.specs.History.{entries_fit, desk_mode}
+use Rattle.dd_log.specs.History.{desk_mode}
 use Rattle.dd_log.specs.Picture.{shown}
 use Rattle.dd_dup.specs.declared.frame.News.{News}
-use Rattle.dd_dup.specs.News.{moves_of, dirt_of, news}
+use Rattle.dd_dup.specs.News.{moves_of, news}
 use Rattle.dd_dup.proofs.Frames.{width-picture, height-picture, picture_forward, news-dirt, news-moves}
 use Rattle.dd_dup.proofs.forward.catch_up.Goals as goal
 

@@ -5,11 +5,14 @@ use Rattle.dd_dup.proofs.forward.draw_entries.Goals as goal
 pub draw_event-requires : goal.draw_event-requires
 draw_event-requires c =
     rw (c.loop-entry.invariant.1.width, c.loop-entry.invariant.1.height)
-    (fit_item c.args.picture.now.width c.args.picture.now.height c.args.entries.now c.loop-entry.entry-index c.entry-item.result c.requires c.loop-entry-test.true c.entry-item.is)
+    (fit_item c.args.picture.now.width c.args.picture.now.height c.args.entries.now c.loop-entry.entry-index
+    c.entry-item.result c.requires c.loop-entry-test.true c.entry-item.is)
 
 pub loop-entry-preserved : goal.loop-entry-preserved
 loop-entry-preserved c = (
-  c.draw_event.ensures.drawn ∙ shown_more c.args.picture.now c.loop-entry.picture c.args.entries.now c.loop-entry.entry-index c.entry-item.result c.loop-entry-test.true c.entry-item.is c.loop-entry.invariant.0,
+  c.draw_event.ensures.drawn
+      ∙ shown_more c.args.picture.now c.loop-entry.picture c.args.entries.now c.loop-entry.entry-index
+      c.entry-item.result c.loop-entry-test.true c.entry-item.is c.loop-entry.invariant.0,
   record {
     width = c.draw_event.ensures.size.width ∙ c.loop-entry.invariant.1.width;
     height = c.draw_event.ensures.size.height ∙ c.loop-entry.invariant.1.height;

@@ -1,7 +1,6 @@
-use Rattle.std.proofs.Common.{◌≡◌, ℕ, ◌+◌, ◌≤◌, ◌<◌, Result, Ok, Err, length, sym, ap, ◌∙◌, arith}
+use Rattle.std.proofs.Common.{ℕ, ◌+◌, ◌≤◌, ◌<◌, Result, Ok, Err, length, sym, ap, ◌∙◌, arith}
 use Rattle.std.specs.Prelude.{OnErr}
 use Rattle.dd_log.specs.declared.events.TheConstants.{MAX_CAPACITY}
-use Rattle.dd_dup.specs.Walk.{interval_of}
 use Rattle.dd_dup.proofs.Entries.{fit_item, some_present, gathered_none, gathered_more, width-gathered, height-gathered, few_frames}
 use Rattle.dd_dup.proofs.news.gather.Goals as goal
 

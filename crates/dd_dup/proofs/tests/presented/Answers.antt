@@ -14,12 +14,15 @@ opening = record { actor = 1; step = 1; event = Opened 0 7 }
 abbrev two : Spec → Entry → History
 two spec e = with_entry (with_entry (begun spec) opening) e
 
-stands_two : (d : Duplicator) (spec : Spec) (h one all : History) (e : Entry) → d.memory ≡ fresh_memory h 0 → StandsOnceOpened d h → h ≡ begun spec → one ≡ with_entry h opening → all ≡ with_entry one e
+stands_two : (d : Duplicator) (spec : Spec) (h one all : History) (e : Entry) → d.memory ≡ fresh_memory h 0
+    → StandsOnceOpened d h → h ≡ begun spec → one ≡ with_entry h opening → all ≡ with_entry one e
     → Stands d all
 stands_two d spec h one all e fresh once h_is one_is all_is =
-    let all_are : all ≡ two spec e = all_is ∙ ap (λ (k : History). with_entry k e) (one_is ∙ ap (λ (k : History). with_entry k opening) h_is) in
+    let all_are : all ≡ two spec e = all_is
+    ∙ ap (λ (k : History). with_entry k e) (one_is ∙ ap (λ (k : History). with_entry k opening) h_is) in
     let begins : Begins (begun spec) (two spec e) = record { spec = refl; within = omega arith; entries = refl } in
-    let opens : opens_at (two spec e) d.memory.opened ≡ true = ap (λ (m : Memory). opens_at (two spec e) m.opened) fresh in
+    let opens : opens_at (two spec e) d.memory.opened ≡ true =
+    ap (λ (m : Memory). opens_at (two spec e) m.opened) fresh in
     subst (λ (k : History). Stands d k) (sym all_are)
     (once (two spec e) (subst (λ (k : History). Begins k (two spec e)) (sym h_is) begins) opens)
 

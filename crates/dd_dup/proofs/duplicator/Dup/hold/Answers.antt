@@ -1,5 +1,5 @@
 use Rattle.std.proofs.Common.{sym, subst}
-use Rattle.dd_dup.specs.News.{news, news_since, frame}
+use Rattle.dd_dup.specs.News.{news, news_since}
 use Rattle.dd_dup.specs.Duplicator.{Duplicator, HeldRebuilds, IsReached, IsExactSince}
 use Rattle.dd_dup.specs.Stands.{Stands}
 use Rattle.dd_dup.proofs.Frames.{granted_is, stands_holding, rebuilds_held, reached, exact}

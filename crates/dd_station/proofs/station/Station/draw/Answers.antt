@@ -1,4 +1,4 @@
-use Rattle.std.proofs.Common.{◌≡◌, ◌∙◌, ◌+◌, sym, ap, subst, refl}
+use Rattle.std.proofs.Common.{◌∙◌, ◌+◌, sym, ap, subst, refl}
 use Rattle.dd_log.specs.History.{History, allowed}
 use Rattle.dd_log.specs.declared.events.Event.TheVariants as events
 use Rattle.dd_station.specs.Run.{State, draw_outcome}
@@ -8,13 +8,18 @@ use Rattle.dd_station.proofs.station.Station.draw.Goals as goal
 
 pub invariant_of-self-2 : goal.invariant_of-self-2
 invariant_of-self-2 c =
-    subst (λ (h : History). IsKept h c.self.inside.clients.items c.self.inside.dups.items (c.self.inside.steps + 1)) (sym c.in_ok-answer.ensures.list)
-    (kept_draw (allowed c.self.inside.log c.args.drawing.now) c.self.inside.log (record { actor = 0; step = c.self.inside.steps + 1; event = events.Draw c.args.drawing.now }) c.self.inside.clients.items c.self.inside.dups.items c.self.inside.steps c.self.invariant refl)
+    subst (λ (h : History). IsKept h c.self.inside.clients.items c.self.inside.dups.items (c.self.inside.steps + 1))
+    (sym c.in_ok-answer.ensures.list)
+    (kept_draw (allowed c.self.inside.log c.args.drawing.now) c.self.inside.log
+    (record { actor = 0; step = c.self.inside.steps + 1; event = events.Draw c.args.drawing.now })
+    c.self.inside.clients.items c.self.inside.dups.items c.self.inside.steps c.self.invariant refl)
 
 pub returns-clause-answer : goal.returns-clause-answer
-returns-clause-answer c = c.in_ok-answer.ensures.answer ∙ ap (λ (s : State). (draw_outcome s c.args.drawing.now).0) c.self.view_is
+returns-clause-answer c = c.in_ok-answer.ensures.answer
+    ∙ ap (λ (s : State). (draw_outcome s c.args.drawing.now).0) c.self.view_is
 
 pub returns-clause-state : goal.returns-clause-state
 returns-clause-state c =
-    ap (λ (h : History). state h c.self.inside.clients.items c.self.inside.dups.items (c.self.inside.steps + 1)) c.in_ok-answer.ensures.list
+    ap (λ (h : History). state h c.self.inside.clients.items c.self.inside.dups.items (c.self.inside.steps + 1))
+    c.in_ok-answer.ensures.list
     ∙ ap (λ (s : State). (draw_outcome s c.args.drawing.now).1) c.self.view_is

@@ -1,5 +1,4 @@
-use Rattle.std.proofs.Common.{◌≡◌, ℕ, ◌∙◌, List, Option, None, length, replicate, sym, ap}
-use Rattle.std.specs.Prelude.{map}
+use Rattle.std.proofs.Common.{◌≡◌, ℕ, ◌∙◌, List, Option, None, length, replicate, ap}
 use lib.LanesLaws.{map-replicate}
 use Rattle.dd_log.specs.History.{History, begun}
 use Rattle.dd_dup.specs.Reply.{Memory}
@@ -19,4 +18,5 @@ returns c =
     ap (λ (h : History). state h c.in_ok-clients.clients.items c.in_ok-dups.dups.items 0) c.in_ok-log.ensures
     ∙ ap (λ (xs : List ℕ). state (begun c.args.spec) xs c.in_ok-dups.dups.items 0) c.in_ok-clients.ensures.items
     ∙ ap (λ (ds : List (Option Duplicator)). state (begun c.args.spec) c.args.clients.now ds 0) c.in_ok-dups.ensures
-    ∙ ap (λ (ms : List (Option Memory)). with_memories (begun c.args.spec) c.args.clients.now ms) (none-memories (length c.args.clients.now))
+    ∙ ap (λ (ms : List (Option Memory)). with_memories (begun c.args.spec) c.args.clients.now ms)
+    (none-memories (length c.args.clients.now))
