@@ -15,7 +15,8 @@ module _ {A : Type 0} where
   abbrev pub left : (Data → Option A) → List Value → ℕ → Option (List A)
   left f vs i = each f (map view (drop i vs))
 
-  one_more : (front : List A) (x : A) (rest : Option (List A)) → with_front front (rest >>= λ xs. Some (x ∷ xs)) ≡ with_front (front ++ x ∷ []) rest
+  one_more : (front : List A) (x : A) (rest : Option (List A))
+      → with_front front (rest >>= λ xs. Some (x ∷ xs)) ≡ with_front (front ++ x ∷ []) rest
   one_more front x None = refl
   one_more front x (Some xs) = ap Some (simp append_assoc)
 
@@ -41,10 +42,12 @@ module _ {A : Type 0} where
         let step : left f vs i ≡ None = next v lt at ∙ ap then_rest read in
         sym so_far ∙ ap (with_front front) step
 
-    pub is_done : length vs ≤ i → with_front front (left f vs i) ≡ each f (map view vs) → each f (map view vs) ≡ Some front
+    pub is_done : length vs ≤ i → with_front front (left f vs i) ≡ each f (map view vs)
+        → each f (map view vs) ≡ Some front
     is_done le so_far =
         let nothing : drop i vs ≡ [] = drop_all i vs le in
-        sym so_far ∙ ap (λ (ws : List Value). with_front front (each f (map view ws))) nothing ∙ ap Some (append-nil front)
+        sym so_far ∙ ap (λ (ws : List Value). with_front front (each f (map view ws))) nothing
+        ∙ ap Some (append-nil front)
 
 -- what a loop over the values needs
 pub ruleset one_by_one = (goes_on, ends, is_done)

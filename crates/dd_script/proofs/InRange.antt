@@ -50,25 +50,29 @@ map_holds P Q None f h k = tt
 map_holds P Q (Some x) f h k = k x h
 
 -- a value under a test
-tested_holds : {A : Type 0} (Q : A → Type 0) (b : Bool) (o : Option A) → (b ≡ true → IfSome o Q) → IfSome (cond b o None) Q
+tested_holds : {A : Type 0} (Q : A → Type 0) (b : Bool) (o : Option A)
+    → (b ≡ true → IfSome o Q) → IfSome (cond b o None) Q
 tested_holds Q true o h = h refl
 tested_holds Q false o h = tt
 
-either_holds : {A : Type 0} (Q : A → Type 0) (b : Bool) (o r : Option A) → IfSome o Q → IfSome r Q → IfSome (cond b o r) Q
+either_holds : {A : Type 0} (Q : A → Type 0) (b : Bool) (o r : Option A)
+    → IfSome o Q → IfSome r Q → IfSome (cond b o r) Q
 either_holds Q true o r h k = h
 either_holds Q false o r h k = k
 
 -- what is read at a key, and the step after it
-key_holds : {A B : Type 0} (P : A → Type 0) (Q : B → Type 0) (key : List ℕ) (d : Data) (read : Data → Option A) (f : A → Option B)
-    → ((e : Data) → IfSome (read e) P) → ((x : A) → P x → IfSome (f x) Q)
+key_holds : {A B : Type 0} (P : A → Type 0) (Q : B → Type 0) (key : List ℕ) (d : Data)
+    (read : Data → Option A) (f : A → Option B) → ((e : Data) → IfSome (read e) P) → ((x : A) → P x → IfSome (f x) Q)
     → IfSome (option_and_then f (option_and_then read (get key d))) Q
-key_holds P Q key d read f h k = then_holds P Q (option_and_then read (get key d)) f (always_holds P (get key d) read h) k
+key_holds P Q key d read f h k =
+    then_holds P Q (option_and_then read (get key d)) f (always_holds P (get key d) read h) k
 
 -- what is read at a place of a list, and the step after it
-place_holds : {A B : Type 0} (P : A → Type 0) (Q : B → Type 0) (n : ℕ) (d : Data) (read : Data → Option A) (f : A → Option B)
-    → ((e : Data) → IfSome (read e) P) → ((x : A) → P x → IfSome (f x) Q)
+place_holds : {A B : Type 0} (P : A → Type 0) (Q : B → Type 0) (n : ℕ) (d : Data)
+    (read : Data → Option A) (f : A → Option B) → ((e : Data) → IfSome (read e) P) → ((x : A) → P x → IfSome (f x) Q)
     → IfSome (option_and_then f (option_and_then read (at n d))) Q
-place_holds P Q n d read f h k = then_holds P Q (option_and_then read (at n d)) f (always_holds P (at n d) read h) k
+place_holds P Q n d read f h k =
+    then_holds P Q (option_and_then read (at n d)) f (always_holds P (at n d) read h) k
 
 -- as many items as there were trees, and each passes
 abbrev AllPassed : {A : Type 0} → (A → Bool) → List Data → List A → Type 0
@@ -108,7 +112,8 @@ coordinate_passes d =
 
 -- a coordinate of a list, and the step after it
 coordinate_holds : {B : Type 0} (Q : B → Type 0) (n : ℕ) (d : Data) (f : ℤ → Option B)
-    → ((z : ℤ) → is_coordinate z ≡ true → IfSome (f z) Q) → IfSome (option_and_then f (option_and_then i32_of (at n d))) Q
+    → ((z : ℤ) → is_coordinate z ≡ true → IfSome (f z) Q)
+    → IfSome (option_and_then f (option_and_then i32_of (at n d))) Q
 coordinate_holds Q n d f k = place_holds (passed is_coordinate) Q n d i32_of f coordinate_passes k
 
 rectangle_passes : (d : Data) → Passes is_rectangle (rect_of d)
@@ -128,7 +133,8 @@ point_passes d =
     coordinate_holds (passed is_point) 1 d _ (λ y hy. and_from _ _ hx hy)))
 
 -- what was decoded is bytes
-ok_bytes : (r : Result (List ℕ) FromHexError) → ((bytes : List ℕ) → r ≡ Ok bytes → IsBytes bytes) → IfSome (result_ok r) IsBytes
+ok_bytes : (r : Result (List ℕ) FromHexError) → ((bytes : List ℕ) → r ≡ Ok bytes → IsBytes bytes)
+    → IfSome (result_ok r) IsBytes
 ok_bytes (Ok bytes) h = h bytes refl
 ok_bytes (Err e) h = tt
 
@@ -152,7 +158,8 @@ all_bytes text = err_first (length text % 2 == 1) OddLength (decode_pairs 0 text
 sized_bytes : (text : List ℕ) (n : ℕ) → IfSome (result_ok (decode_sized text n)) IsBytes
 sized_bytes text n =
     let pairs = err_last (length text / 2 == n) InvalidStringLength (decode_pairs 0 text) (decoded_pairs text) in
-    err_first (length text % 2 == 1) OddLength (cond (length text / 2 == n) (decode_pairs 0 text) (Err InvalidStringLength)) pairs
+    err_first (length text % 2 == 1) OddLength
+    (cond (length text / 2 == n) (decode_pairs 0 text) (Err InvalidStringLength)) pairs
 
 colour_passes_from : (bytes : List ℕ) → IsBytes bytes → is_colour (from_be_bytes w32 (0 ∷ bytes)) ≡ true
 colour_passes_from bytes h =
@@ -167,7 +174,8 @@ colour_passes d =
     always_holds (passed is_colour) (as_str d) _ (λ text.
     then_holds IsBytes (passed is_colour) (result_ok (decode_sized text 3)) _ (sized_bytes text 3) colour_passes_from)
 
-colours_pass_at : (bytes : List ℕ) → IsBytes bytes → (places : List ℕ) → list_all is_colour (map (colour_at bytes) places) ≡ true
+colours_pass_at : (bytes : List ℕ) → IsBytes bytes → (places : List ℕ)
+    → list_all is_colour (map (colour_at bytes) places) ≡ true
 colours_pass_at bytes h [] = refl
 colours_pass_at bytes h (i ∷ places) =
     let red = h (3 * i) in
@@ -187,19 +195,23 @@ fill_passes : (d : Data) → Passes is_operation (fill_of d)
 unfolding fill_of
 fill_passes d =
     key_holds (passed is_rectangle) (passed is_operation) (codes "fill") d rect_of _ rectangle_passes (λ r hr.
-    key_holds (passed is_colour) (passed is_operation) (codes "colour") d colour_of _ colour_passes (λ c hc. and_from _ _ hr hc))
+    key_holds (passed is_colour) (passed is_operation) (codes "colour") d colour_of _ colour_passes (λ c hc.
+    and_from _ _ hr hc))
 
 blit_passes : (d : Data) → Passes is_operation (blit_of d)
 unfolding blit_of
 blit_passes d =
     key_holds (passed is_rectangle) (passed is_operation) (codes "blit") d rect_of _ rectangle_passes (λ r hr.
-    key_holds (passed (list_all is_colour)) (passed is_operation) (codes "colours") d colours_of _ colours_pass (λ cs hc. and_from _ _ hr hc))
+    key_holds (passed (list_all is_colour)) (passed is_operation) (codes "colours") d colours_of _ colours_pass
+    (λ cs hc.
+    and_from _ _ hr hc))
 
 scroll_passes : (d : Data) → Passes is_operation (scroll_of d)
 unfolding scroll_of
 scroll_passes d =
     key_holds (passed is_rectangle) (passed is_operation) (codes "scroll") d rect_of _ rectangle_passes (λ r hr.
-    key_holds (passed is_point) (passed is_operation) (codes "from") d point_of _ point_passes (λ p hp. and_from _ _ hp hr))
+    key_holds (passed is_point) (passed is_operation) (codes "from") d point_of _ point_passes (λ p hp.
+    and_from _ _ hp hr))
 
 operation_passes : (d : Data) → Passes is_operation (operation_of d)
 unfolding operation_of
@@ -226,7 +238,8 @@ drawing_passes : (d : Data) → Passes is_drawing (draw_of d)
 unfolding draw_of
 drawing_passes d =
     tested_holds (passed is_drawing) (has_keys 1 d) _ (λ _.
-    key_holds (passed are_operations) (passed is_drawing) (codes "present") d operations_of _ operations_pass (λ ops h. h))
+    key_holds (passed are_operations) (passed is_drawing) (codes "present") d operations_of _ operations_pass (λ ops h.
+    h))
 
 -- ---- steps
 
@@ -248,7 +261,8 @@ call_passes d =
     tested_holds (passed is_step) (has_keys 2 d) _ (λ _.
     key_holds (passed is_number) (passed is_step) (codes "client") d u32_of _ number_passes (λ client hk.
     always_holds (passed is_step) (option_and_then as_str (get (codes "call") d)) _ (λ name.
-    then_holds (passed is_call) (passed is_step) (call_named name) _ (named_passes name) (λ call hc. and_from _ _ hk hc))))
+    then_holds (passed is_call) (passed is_step) (call_named name) _ (named_passes name) (λ call hc.
+    and_from _ _ hk hc))))
 
 step_passes : (d : Data) → Passes is_step (step_of d)
 unfolding step_of
@@ -278,8 +292,8 @@ apps_pass d = list_passes u32_of is_number number_passes d
 -- each part is in its range
 abbrev pub parts_in_range : Script → Bool
 parts_in_range s =
-    are_modes s.spec.modes && is_number s.spec.capacity && list_all is_number s.spec.privileged && list_all is_number s.clients
-    && list_all is_step s.steps
+    are_modes s.spec.modes && is_number s.spec.capacity && list_all is_number s.spec.privileged
+    && list_all is_number s.clients && list_all is_step s.steps
 
 parts_pass : (d : Data) → Passes parts_in_range (parts_of d)
 unfolding parts_of

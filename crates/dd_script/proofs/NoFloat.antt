@@ -17,7 +17,8 @@ coordinate_has_none : (z : ℤ) → is_float (of_integer z) ≡ false
 coordinate_has_none (pos n) = refl
 coordinate_has_none (negsuc n) = refl
 
-list_has_none : {T : Type 0} (f : T → Data) → ((x : T) → has_float (f x) ≡ false) → (xs : List T) → items_have_float (items_of (map f xs)) ≡ false
+list_has_none : {T : Type 0} (f : T → Data) → ((x : T) → has_float (f x) ≡ false) → (xs : List T)
+    → items_have_float (items_of (map f xs)) ≡ false
 list_has_none f h [] = refl
 list_has_none f h (x ∷ xs) = rw (h x, list_has_none f h xs)
 
@@ -39,7 +40,8 @@ info_has_none i = simp point_has_none
 
 frame_has_none : (i : FrameInfo) (ms : List Move) (rs : List Rect) → has_float (frame_tree i ms rs) ≡ false
 unfolding frame_tree
-frame_has_none i ms rs = rw (list_has_none rect_tree rect_has_none rs, info_has_none i, list_has_none move_tree move_has_none ms)
+frame_has_none i ms rs =
+    rw (list_has_none rect_tree rect_has_none rs, info_has_none i, list_has_none move_tree move_has_none ms)
 
 surface_has_none : (rows : Option (List (List ℕ))) → has_float (surface_tree rows) ≡ false
 unfolding surface_tree
@@ -47,8 +49,8 @@ surface_has_none None = refl
 surface_has_none (Some rows) = rw (list_has_none row_tree (λ _. refl) rows)
 
 -- a part more, which has none
-part_has_none : {T : Type 0} (key : List ℕ) (f : T → Data) → ((x : T) → has_float (f x) ≡ false) → (o : Option T) (ms : Members)
-    → members_have_float (part key (option_map f o) ms) ≡ members_have_float ms
+part_has_none : {T : Type 0} (key : List ℕ) (f : T → Data) → ((x : T) → has_float (f x) ≡ false)
+    → (o : Option T) (ms : Members) → members_have_float (part key (option_map f o) ms) ≡ members_have_float ms
 part_has_none key f h None ms = refl
 part_has_none key f h (Some x) ms = rw (h x) refl
 

@@ -6,5 +6,8 @@ use Rattle.dd_script.specs.Script.{u32_of, i32_of, point_of, rect_of, colour_of,
 
 -- what an answer unfolds to compute the script of a literal text
 unfoldable pub script_on_literals : ⊤
-unfolding serde_json_on_literals hex_on_literals is_mode are_modes u32_of i32_of point_of rect_of colour_of colours_from colours_of fill_of blit_of scroll_of operation_of operations_of draw_of call_named call_of step_of steps_of rotation_numbered mode_of modes_of apps_of parts_of keeps_limits has_one_duplicator script_of
+unfolding serde_json_on_literals hex_on_literals is_mode are_modes
+    u32_of i32_of point_of rect_of colour_of colours_from colours_of fill_of blit_of scroll_of
+    operation_of operations_of draw_of call_named call_of step_of steps_of rotation_numbered mode_of
+    modes_of apps_of parts_of keeps_limits has_one_duplicator script_of
 script_on_literals = tt

@@ -4,8 +4,10 @@ use Rattle.serde_json.specs.Data.{Data, Members, member, no_members, put}
 use Rattle.dd_script.specs.Answers.{part, put_part}
 
 in_order : (buffer code op : Option Data) (name : Data)
-    → put_part (codes "buffer") buffer (put_part (codes "code") code (put_part (codes "op") op (put (codes "refused") name no_members)))
-    ≡ part (codes "buffer") buffer (part (codes "code") code (part (codes "op") op (member (codes "refused") name no_members)))
+    → put_part (codes "buffer") buffer (put_part (codes "code") code
+    (put_part (codes "op") op (put (codes "refused") name no_members)))
+    ≡ part (codes "buffer") buffer (part (codes "code") code
+    (part (codes "op") op (member (codes "refused") name no_members)))
 in_order None None None name = refl
 in_order None None (Some op) name = refl
 in_order None (Some code) None name = refl
@@ -21,5 +23,7 @@ pub put_in_turn : (buffer code op : Option Data) (name : Data) (none named with_
     → with_op ≡ put_part (codes "op") op named
     → with_code ≡ put_part (codes "code") code with_op
     → all ≡ put_part (codes "buffer") buffer with_code
-    → all ≡ part (codes "buffer") buffer (part (codes "code") code (part (codes "op") op (member (codes "refused") name no_members)))
-put_in_turn buffer code op name none named with_op with_code all e0 e1 e2 e3 e4 = rw (e4, e3, e2, e1, e0) (in_order buffer code op name)
+    → all ≡ part (codes "buffer") buffer (part (codes "code") code
+    (part (codes "op") op (member (codes "refused") name no_members)))
+put_in_turn buffer code op name none named with_op with_code all e0 e1 e2 e3 e4 =
+    rw (e4, e3, e2, e1, e0) (in_order buffer code op name)

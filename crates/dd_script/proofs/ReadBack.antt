@@ -40,7 +40,8 @@ use Rattle.dd_script.proofs.InRange.{is_read}
 abbrev spelled : {A : Type 0} → (A → Data) → List A → List Data
 spelled tree xs = listed (items_of (map tree xs))
 
-each_back : {A : Type 0} (f : Data → Option A) (tree : A → Data) (p : A → Bool) → ((x : A) → p x ≡ true → f (tree x) ≡ Some x)
+each_back : {A : Type 0} (f : Data → Option A) (tree : A → Data) (p : A → Bool)
+    → ((x : A) → p x ≡ true → f (tree x) ≡ Some x)
     → (xs : List A) → list_all p xs ≡ true → each f (spelled tree xs) ≡ Some xs
 each_back f tree p h [] e = refl
 each_back f tree p h (x ∷ xs) e =
@@ -74,7 +75,11 @@ rect_back r h =
     let three = and_parts _ (is_coordinate r.bottom) h in
     let two = and_parts _ (is_coordinate r.right) three.0 in
     let one = and_parts (is_coordinate r.left) (is_coordinate r.top) two.0 in
-    rw (coordinate_back r.left one.0, coordinate_back r.top one.1, coordinate_back r.right two.1, coordinate_back r.bottom three.1) refl
+    let left = coordinate_back r.left one.0 in
+    let top = coordinate_back r.top one.1 in
+    let right = coordinate_back r.right two.1 in
+    let bottom = coordinate_back r.bottom three.1 in
+    rw (left, top, right, bottom) refl
 
 point_back : (p : Point) → is_point p ≡ true → point_of (point_tree p) ≡ Some p
 unfolding point_of point_tree
@@ -114,22 +119,27 @@ unfolding colour_of
 colour_back c h =
     let digits = length-encode_with lower_digits (colour_bytes c) in
     let pairs = decode_sized-pairs (encode_lower (colour_bytes c)) 3 (omega (arith, digits)) (omega (arith, digits)) in
-    let bytes = pairs ∙ decode_pairs-encode_with lower_digits IsDigits-lower_digits 0 (colour_bytes c) (IsBytes-colour c) in
-    rw bytes (ap Some (from_bytes c h))
+    let back = decode_pairs-encode_with lower_digits IsDigits-lower_digits 0 (colour_bytes c) (IsBytes-colour c) in
+    rw (pairs ∙ back) (ap Some (from_bytes c h))
 
 length-colours : (cs : List ℕ) → length (flat_map colour_bytes cs) ≡ 3 * length cs
 length-colours [] = refl
 length-colours (c ∷ cs) = let rest = length-colours cs in omega arith
 
 -- past three bytes
-past_three : (a b c : ℕ) (bytes : List ℕ) (i j : ℕ) → i ≡ 3 + j → slice_index_or (a ∷ b ∷ c ∷ bytes) i 0 ≡ slice_index_or bytes j 0
+past_three : (a b c : ℕ) (bytes : List ℕ) (i j : ℕ)
+    → i ≡ 3 + j → slice_index_or (a ∷ b ∷ c ∷ bytes) i 0 ≡ slice_index_or bytes j 0
 past_three a b c bytes i j e = let three : 3 + j ≡ suc (suc (suc j)) = omega arith in rw (e, three) refl
 
 colour_at-next : (a b c : ℕ) (bytes : List ℕ) (k : ℕ) → colour_at (a ∷ b ∷ c ∷ bytes) (suc k) ≡ colour_at bytes k
 colour_at-next a b c bytes k =
-    rw (past_three a b c bytes (3 * suc k) (3 * k) (omega arith), past_three a b c bytes (3 * suc k + 1) (3 * k + 1) (omega arith), past_three a b c bytes (3 * suc k + 2) (3 * k + 2) (omega arith)) refl
+    let red = past_three a b c bytes (3 * suc k) (3 * k) (omega arith) in
+    let green = past_three a b c bytes (3 * suc k + 1) (3 * k + 1) (omega arith) in
+    let blue = past_three a b c bytes (3 * suc k + 2) (3 * k + 2) (omega arith) in
+    rw (red, green, blue) refl
 
-colour_at-back : (cs : List ℕ) (k d : ℕ) → list_all is_colour cs ≡ true → k < length cs → colour_at (flat_map colour_bytes cs) k ≡ get_or cs k d
+colour_at-back : (cs : List ℕ) (k d : ℕ) → list_all is_colour cs ≡ true → k < length cs
+    → colour_at (flat_map colour_bytes cs) k ≡ get_or cs k d
 colour_at-back [] k d h lt = absurd (omega arith)
 colour_at-back (c ∷ cs) zero d h lt = from_bytes c (and_parts (is_colour c) (list_all is_colour cs) h).0
 colour_at-back (c ∷ cs) (suc k) d h lt =
@@ -172,7 +182,8 @@ draw_back : (d : draws.Draw) → is_drawing d ≡ true → draw_of (draw_tree d)
 unfolding draw_tree draw_of operations_of
 draw_back (Present ops) h =
     let both = and_parts (nat_le (length ops) MAX_OPS) (list_all is_operation ops) h in
-    let few : nat_le (length (spelled op_tree ops)) MAX_OPS ≡ true = ap (λ n. nat_le n MAX_OPS) (length-spelled op_tree ops) ∙ both.0 in
+    let few : nat_le (length (spelled op_tree ops)) MAX_OPS ≡ true =
+    ap (λ n. nat_le n MAX_OPS) (length-spelled op_tree ops) ∙ both.0 in
     rw (few, each_back operation_of op_tree is_operation op_back ops both.1) refl
 
 -- ---- steps
@@ -249,7 +260,11 @@ script_back s h =
     let clients = and_parts _ (list_all is_number s.clients) steps.0 in
     let privileged = and_parts _ (list_all is_number s.spec.privileged) clients.0 in
     let capacity = and_parts (are_modes s.spec.modes) (is_number s.spec.capacity) privileged.0 in
-    rw (modes_back s.spec.modes capacity.0, number_back s.spec.capacity capacity.1, apps_back s.spec.privileged privileged.1, apps_back s.clients clients.1, steps_back s.steps steps.1, limits.1, one.1) refl
+    let modes = modes_back s.spec.modes capacity.0 in
+    let number = number_back s.spec.capacity capacity.1 in
+    let apps = apps_back s.spec.privileged privileged.1 in
+    let clients_too = apps_back s.clients clients.1 in
+    rw (modes, number, apps, clients_too, steps_back s.steps steps.1, limits.1, one.1) refl
 
 -- each script that some tree is
 pub read_back : (d : Data) (s : Script) → script_of d ≡ Some s → IsReadBack s

@@ -16,11 +16,15 @@ use Rattle.dd_station.specs.Run.{IsOfClient}
 
 of_client : (n : ℕ) (s : Step) → has_client n s ≡ true → IsOfClient n s
 of_client n (Draw drawing) h = tt
-of_client n (Call client call) h = let p = and_parts (nat_le 1 client) (nat_le client n) h in (leb-true _ _ p.0, leb-true _ _ p.1)
+of_client n (Call client call) h =
+    let p = and_parts (nat_le 1 client) (nat_le client n) h in
+    (leb-true _ _ p.0, leb-true _ _ p.1)
 
 of_clients : (n : ℕ) (ss : List Step) → list_all (has_client n) ss ≡ true → AllByRecursion (IsOfClient n) ss
 of_clients n [] h = tt
-of_clients n (s ∷ ss) h = let p = and_parts (has_client n s) (list_all (has_client n) ss) h in (of_client n s p.0, of_clients n ss p.1)
+of_clients n (s ∷ ss) h =
+    let p = and_parts (has_client n s) (list_all (has_client n) ss) h in
+    (of_client n s p.0, of_clients n ss p.1)
 
 has_room : (s : Script) → has_one_duplicator s ≡ true → length s.steps < s.spec.capacity
 unfolding has_one_duplicator
@@ -51,7 +55,8 @@ runs s h room =
 pub script_runs : (d : Data) (s : Script) → script_of d ≡ Some s → IsRunnable s
 unfolding script_of
 script_runs d s e =
-    option_and_then_some (λ (r : Script). cond (keeps_limits r && has_one_duplicator r) (Some r) None) (parts_of d) s e (λ r read kept.
+    option_and_then_some (λ (r : Script). cond (keeps_limits r && has_one_duplicator r) (Some r) None)
+    (parts_of d) s e (λ r read kept.
     let c = cond_some (keeps_limits r && has_one_duplicator r) r s kept in
     let p = and_parts (keeps_limits r) (has_one_duplicator r) c.0 in
     subst IsRunnable c.1 (runs r p.0 (has_room r p.1)))

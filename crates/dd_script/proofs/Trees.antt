@@ -26,4 +26,5 @@ list_from_array vs d e = ap Some (sym (listed_view vs)) ∙ ap (λ (o : Option I
 pub keys_from_object : (ms : List (String Global × Value)) (d : Data) (n : ℕ)
     → Some (members_view ms) ≡ as_object d → nat_eq (length ms) n ≡ has_keys n d
 keys_from_object ms d n e =
-    ap (λ k. nat_eq k n) (sym (count_view ms)) ∙ ap (λ (o : Option Members). option_map_or (λ m. nat_eq (member_count m) n) o false) e
+    ap (λ k. nat_eq k n) (sym (count_view ms))
+    ∙ ap (λ (o : Option Members). option_map_or (λ m. nat_eq (member_count m) n) o false) e

@@ -37,14 +37,18 @@ point_tree p = array (item (coordinate p.x) (item (coordinate p.y) no_items))
 
 -- a rectangle as its left, top, right and bottom sides
 unfoldable pub rect_tree : Rect → Data
-rect_tree r = array (item (coordinate r.left) (item (coordinate r.top) (item (coordinate r.right) (item (coordinate r.bottom) no_items))))
+rect_tree r =
+    array
+    (item (coordinate r.left) (item (coordinate r.top)
+    (item (coordinate r.right) (item (coordinate r.bottom) no_items))))
 
 -- a move as its source point, then its destination's sides
 unfoldable pub move_tree : Move → Data
 move_tree m =
     array
     (item (coordinate m.source.x) (item (coordinate m.source.y)
-    (item (coordinate m.dest.left) (item (coordinate m.dest.top) (item (coordinate m.dest.right) (item (coordinate m.dest.bottom) no_items))))))
+    (item (coordinate m.dest.left) (item (coordinate m.dest.top)
+    (item (coordinate m.dest.right) (item (coordinate m.dest.bottom) no_items))))))
 
 -- what is told of a frame
 unfoldable pub info_tree : FrameInfo → Data
@@ -141,14 +145,17 @@ refused_drawing drawing.Full = named (codes "Full")
 refused_drawing (drawing.BadRect op) = record (named (codes "BadRect")) { code = Some invalid_argument; op = Some op }
 
 abbrev pub refused_opening : OpenRefusal → Refusal
-refused_opening opening.AlreadyDuplicating = record (named (codes "AlreadyDuplicating")) { code = Some invalid_argument }
+refused_opening opening.AlreadyDuplicating =
+    record (named (codes "AlreadyDuplicating")) { code = Some invalid_argument }
 refused_opening opening.NotAvailable = record (named (codes "NotAvailable")) { code = Some not_available }
 refused_opening opening.Full = named (codes "Full")
 
 -- a refused call, with the whole buffer that it was given, if any
 abbrev pub refused_call : DupRefusal → Option (List ℕ) → Refusal
-refused_call call.InvalidCall buffer = record (named (codes "InvalidCall")) { code = Some invalid_call; buffer = buffer }
-refused_call call.WaitTimeout buffer = record (named (codes "WaitTimeout")) { code = Some wait_timeout; buffer = buffer }
+refused_call call.InvalidCall buffer =
+    record (named (codes "InvalidCall")) { code = Some invalid_call; buffer = buffer }
+refused_call call.WaitTimeout buffer =
+    record (named (codes "WaitTimeout")) { code = Some wait_timeout; buffer = buffer }
 refused_call call.OutOfMemory buffer = record (named (codes "OutOfMemory")) { buffer = buffer }
 
 -- a call of a client that has no duplicator
@@ -160,7 +167,8 @@ refused_client = named (codes "NoDuplicator")
 unfoldable pub answer_tree : Answer → Data
 answer_tree (answer.Entered entry) = object (member (codes "entry") (count entry) no_members)
 answer_tree (answer.NotDrawn refusal) = refusal_tree (refused_drawing refusal)
-answer_tree (answer.Opened entry slot) = object (member (codes "entry") (count entry) (member (codes "slot") (count slot) no_members))
+answer_tree (answer.Opened entry slot) =
+    object (member (codes "entry") (count entry) (member (codes "slot") (count slot) no_members))
 answer_tree (answer.NotOpened refusal) = refusal_tree (refused_opening refusal)
 answer_tree (answer.Frame info moves dirt) = frame_tree info moves dirt
 answer_tree answer.Released = object (member (codes "released") (boolean true) no_members)

@@ -34,10 +34,14 @@ abbrev pub colours_tree : List ℕ → Data
 colours_tree cs = string (row_digits cs)
 
 unfoldable pub op_tree : Op → Data
-op_tree (Fill r c) = object (member (codes "colour") (colour_tree c) (member (codes "fill") (rect_tree r) no_members))
-op_tree (Blit r cs) = object (member (codes "blit") (rect_tree r) (member (codes "colours") (colours_tree cs) no_members))
-op_tree (Cover r cs) = object (member (codes "colours") (colours_tree cs) (member (codes "cover") (rect_tree r) no_members))
-op_tree (Scroll m) = object (member (codes "from") (point_tree m.source) (member (codes "scroll") (rect_tree m.dest) no_members))
+op_tree (Fill r c) =
+    object (member (codes "colour") (colour_tree c) (member (codes "fill") (rect_tree r) no_members))
+op_tree (Blit r cs) =
+    object (member (codes "blit") (rect_tree r) (member (codes "colours") (colours_tree cs) no_members))
+op_tree (Cover r cs) =
+    object (member (codes "colours") (colours_tree cs) (member (codes "cover") (rect_tree r) no_members))
+op_tree (Scroll m) =
+    object (member (codes "from") (point_tree m.source) (member (codes "scroll") (rect_tree m.dest) no_members))
 
 unfoldable pub draw_tree : draws.Draw → Data
 draw_tree (Present ops) = object (member (codes "present") (array_of op_tree ops) no_members)
@@ -52,7 +56,8 @@ name_of Surface = codes "surface"
 
 unfoldable pub step_tree : Step → Data
 step_tree (Draw drawing) = draw_tree drawing
-step_tree (Call client call) = object (member (codes "call") (string (name_of call)) (member (codes "client") (count client) no_members))
+step_tree (Call client call) =
+    object (member (codes "call") (string (name_of call)) (member (codes "client") (count client) no_members))
 
 -- ---- the output
 
@@ -122,8 +127,8 @@ is_step (Call client call) = is_number client && is_call call
 -- each part is in its range, and the tests on a script that was read hold
 unfoldable pub is_readable : Script → Bool
 is_readable s =
-    are_modes s.spec.modes && is_number s.spec.capacity && list_all is_number s.spec.privileged && list_all is_number s.clients
-    && list_all is_step s.steps && keeps_limits s && has_one_duplicator s
+    are_modes s.spec.modes && is_number s.spec.capacity && list_all is_number s.spec.privileged
+    && list_all is_number s.clients && list_all is_step s.steps && keeps_limits s && has_one_duplicator s
 
 -- a script's own tree is read as that script
 abbrev pub IsReadBack : Script → Type 0

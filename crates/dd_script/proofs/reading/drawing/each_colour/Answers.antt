@@ -6,4 +6,5 @@ use Rattle.dd_script.proofs.reading.drawing.each_colour.Goals as goal
 
 pub loop-i-preserved : goal.loop-i-preserved
 loop-i-preserved c =
-    grind (arith, common_steps, map-range_with_len_more (colour_at c.args.bytes.now) 0 c.loop-i.i c.loop-i.i (omega arith))
+    let more = map-range_with_len_more (colour_at c.args.bytes.now) 0 c.loop-i.i c.loop-i.i (omega arith) in
+    grind (arith, common_steps, more)

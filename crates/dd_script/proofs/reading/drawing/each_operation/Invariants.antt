@@ -6,4 +6,5 @@ use Rattle.dd_script.proofs.reading.drawing.each_operation.Given as goal
 
 abbrev pub invariant-loop-tree : goal.invariant-loop-tree
 invariant-loop-tree l =
-    (length l.ops ≡ l.tree-index) × (with_front l.ops (left operation_of l.trees l.tree-index) ≡ each operation_of (map view l.trees))
+    (length l.ops ≡ l.tree-index)
+    × (with_front l.ops (left operation_of l.trees l.tree-index) ≡ each operation_of (map view l.trees))

@@ -15,5 +15,6 @@ returns c =
     let op = c.in_ok-put_if.ensures in
     let code = c.in_ok-put_if-2.ensures in
     let buffer = c.in_ok-put_if-3.ensures in
-    rw (← c.self.view_is, view-Object c.put_if-3.new.map, ← c.in_ok-buffer.ensures, ← c.in_ok-code.ensures, ← c.op_tree.ensures)
+    let whole = view-Object c.put_if-3.new.map in
+    rw (← c.self.view_is, whole, ← c.in_ok-buffer.ensures, ← c.in_ok-code.ensures, ← c.op_tree.ensures)
     (ap object (put_in_turn _ _ _ _ _ _ _ _ _ empty named op code buffer))
