@@ -10,7 +10,7 @@ use Rattle.dd_station.specs.declared.steps.Step.TheVariants.{Draw, Call}
 use Rattle.dd_station.specs.declared.steps.Script.{Script}
 use Rattle.dd_log.specs.declared.events.TheConstants.{MAX_CAPACITY}
 use Rattle.dd_station.specs.declared.steps.TheConstants.{MAX_CLIENTS}
-use Rattle.dd_script.specs.declared.reading.limits.TheConstants.{MAX_PRIVILEGED}
+use Rattle.dd_log.specs.declared.events.TheConstants.{MAX_PRIVILEGED}
 use Rattle.dd_script.specs.Script.{parts_of, script_of, has_client, keeps_limits, opens_first, has_one_duplicator, IsRunnable}
 use Rattle.dd_station.specs.Run.{IsOfClient}
 

@@ -7,7 +7,7 @@ use Rattle.serde_json.proofs.OnLiterals.{serde_json_on_literals}
 use Rattle.dd_modes.specs.declared.modes.Rotation.TheVariants.{Identity}
 use Rattle.dd_modes.specs.declared.modes.TheConstants.{MAX_MODES}
 use Rattle.dd_ops.specs.declared.operations.Op.TheVariants.{Fill, Blit, Scroll}
-use Rattle.dd_ops.specs.declared.operations.TheConstants.{COLOURS}
+use Rattle.dd_grid.specs.declared.cell.TheConstants.{COLOURS}
 use Rattle.dd_ops.specs.declared.lists.TheConstants.{MAX_OPS}
 use Rattle.dd_log.specs.declared.events.Draw.TheVariants.{Present}
 use Rattle.dd_log.specs.declared.events.TheConstants.{MAX_CAPACITY}
@@ -15,7 +15,7 @@ use Rattle.dd_station.specs.declared.steps.ClientCall.TheVariants.{Duplicate, Ac
 use Rattle.dd_station.specs.declared.steps.Step.TheVariants.{Draw, Call}
 use Rattle.dd_station.specs.declared.steps.Script.{Script}
 use Rattle.dd_station.specs.declared.steps.TheConstants.{MAX_CLIENTS}
-use Rattle.dd_script.specs.declared.reading.limits.TheConstants.{MAX_PRIVILEGED}
+use Rattle.dd_log.specs.declared.events.TheConstants.{MAX_PRIVILEGED}
 use Rattle.dd_script.specs.Answers.{point_tree, rect_tree, row_digits}
 use Rattle.dd_script.specs.Script.{keeps_limits}
 use Rattle.dd_script.specs.Spelling.{op_tree, draw_tree, step_tree, mode_tree, spelling}

@@ -25,9 +25,8 @@ use Rattle.dd_station.specs.declared.steps.Step.{Step}
 use Rattle.dd_station.specs.declared.steps.Step.TheVariants.{Draw, Call}
 use Rattle.dd_station.specs.declared.steps.Script.{Script}
 use Rattle.dd_station.specs.Run.{IsOfClient}
-use Rattle.dd_log.specs.declared.events.TheConstants.{MAX_CAPACITY}
+use Rattle.dd_log.specs.declared.events.TheConstants.{MAX_CAPACITY, MAX_PRIVILEGED}
 use Rattle.dd_station.specs.declared.steps.TheConstants.{MAX_CLIENTS}
-use Rattle.dd_script.specs.declared.reading.limits.TheConstants.{MAX_PRIVILEGED}
 
 -- the second step, where the first gave a value
 infixl 10 ◌>>=◌

@@ -11,7 +11,7 @@ use Rattle.dd_modes.specs.declared.modes.Rotation.TheVariants.{Unspecified, Iden
 use Rattle.dd_modes.specs.Modes.{are_modes}
 use Rattle.dd_ops.specs.declared.operations.Op.{Op}
 use Rattle.dd_ops.specs.declared.operations.Op.TheVariants.{Fill, Blit, Cover, Scroll}
-use Rattle.dd_ops.specs.declared.operations.TheConstants.{COLOURS}
+use Rattle.dd_grid.specs.declared.cell.TheConstants.{COLOURS}
 use Rattle.dd_ops.specs.declared.lists.TheConstants.{MAX_OPS}
 use Rattle.dd_log.specs.declared.events.Draw as draws
 use Rattle.dd_log.specs.declared.events.Draw.TheVariants.{Present}

@@ -5,11 +5,8 @@ ghost use Rattle.std.specs.List.{list_all};
 ghost use Rattle.dd_script.specs.Script.{has_client, keeps_limits};
 ghost use Rattle.dd_script.specs.Script.{is_duplicate, opens_first, has_one_duplicator};
 
-use dd_log::MAX_CAPACITY;
+use dd_log::{MAX_CAPACITY, MAX_PRIVILEGED};
 use dd_station::{ClientCall, MAX_CLIENTS, Script, Step};
-
-/// The most applications that may duplicate a secure desktop.
-const MAX_PRIVILEGED: usize = 16;
 
 /// Whether a call is of one of n clients, numbered from 1.
 fn has_client(step: &Step, n: usize) -> bool
