@@ -1,5 +1,6 @@
 -- Devices in memory, as a contract sees them.
-use Rattle.std.specs.Prelude.{ℕ, ◌+◌, ◌-◌, ◌^◌, List, min}
+use Rattle.std.specs.Prelude.{ℕ, List}
+use Rattle.dd_io.specs.Causes.{risen}
 
 -- The bytes that the device has left or holds, how many it moves at most in a call, the numbers of the calls that
 -- fail, and its counts of calls and of faults.
@@ -10,13 +11,14 @@ pub record Device : Type 0 where
   pub calls : ℕ
   pub faults : ℕ
 
--- no call came yet
-abbrev pub fresh : List ℕ → ℕ → List ℕ → Device
-fresh bytes piece fails = record { bytes = bytes; piece = piece; fails = fails; calls = 0; faults = 0 }
+-- A device that keeps what it takes, and for how many bytes more it has memory.
+pub record Keeper : Type 0 where
+  pub device : Device
+  pub room : ℕ
 
--- a count of 64 bits after one more, which stands still at its last value
-abbrev pub risen : ℕ → ℕ
-risen n = min (n + 1) (2 ^ 64 - 1)
+-- no call came yet
+abbrev pub unused_device : List ℕ → ℕ → List ℕ → Device
+unused_device bytes piece fails = record { bytes = bytes; piece = piece; fails = fails; calls = 0; faults = 0 }
 
 -- a call left these bytes
 abbrev pub after_call : Device → List ℕ → Device
