@@ -22,8 +22,8 @@ unused_device bytes piece fails = record { bytes = bytes; piece = piece; fails =
 
 -- a call left these bytes
 abbrev pub after_call : Device → List ℕ → Device
-after_call d bytes = record { bytes = bytes; piece = d.piece; fails = d.fails; calls = risen d.calls; faults = d.faults }
+after_call d bytes = record d { bytes = bytes; calls = risen d.calls }
 
 -- a call failed
 abbrev pub after_fault : Device → Device
-after_fault d = record { bytes = d.bytes; piece = d.piece; fails = d.fails; calls = risen d.calls; faults = risen d.faults }
+after_fault d = record d { calls = risen d.calls; faults = risen d.faults }

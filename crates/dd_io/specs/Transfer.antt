@@ -8,7 +8,8 @@ use Rattle.dd_io.specs.declared.fault.ReadUpFault.TheVariants.{Failed, TooLong, 
 -- A read of one piece: at most `room` bytes that are next, and at least one; or none at the end of input; or none as it
 -- failed.
 abbrev pub GivesPiece : {F : Type 0} → Option (List ℕ) → Option (List ℕ) → ℕ → Result (Option (Bor (List ℕ))) F → Type 0
-GivesPiece old new room (Ok (Some piece)) = Consumes old new piece.now × (0 < length piece.now) × (length piece.now ≤ room)
+GivesPiece old new room (Ok (Some piece)) =
+    Consumes old new piece.now × (0 < length piece.now) × (length piece.now ≤ room)
 GivesPiece old new room (Ok None) = Keeps old new × IsAtEnd new
 GivesPiece old new room (Err e) = Keeps old new
 

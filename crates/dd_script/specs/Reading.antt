@@ -14,6 +14,14 @@ pub record IsJson (bytes : List ℕ) (d : Data) : Type 0 where
   pub text : IsUtf8 bytes
   pub tree : read bytes ≡ Some d
 
+-- the bytes are the text of a tree that is this script
+abbrev pub IsScript : List ℕ → Script → Type 0
+IsScript b s = (d : Data) × IsJson b d × (script_of d ≡ Some s)
+
+-- the bytes have no JSON reading, or a tree that is no script
+abbrev pub IsNoScript : List ℕ → Type 0
+IsNoScript b = (d : Data) → IsJson b d → script_of d ≡ None
+
 -- why a part of a tree wasn't read
 abbrev pub Refuses : {A : Type 0} → ScriptFault → Option A → Type 0
 Refuses NotJson read = ⊥
