@@ -2,7 +2,6 @@
 use Rattle.std.proofs.Common.{◌≡◌, ℕ, ◌+◌, ◌-◌, ◌<◌, ◌≤◌, List, ◌++◌, Option, length, take, subst, sym, ap, ◌∙◌, arith, length-append}
 use Rattle.std.proofs.KnownBytes.{Appends-kept, Appends-trans, Consumes-trans}
 use Rattle.std.proofs.Math.Seq.{take-append_seam, take-append-add}
-use Rattle.std.proofs.lemmas.Grind.{common_steps}
 use Rattle.std.specs.Io.KnownBytes.{Appends, Consumes, Keeps}
 use Rattle.dd_io.specs.Transfer.{AppendsPrefix, GivesAtMost, GivesMoreThan}
 
@@ -26,20 +25,20 @@ AppendsPrefix-next a b c xs ys p q = (
 )
 
 -- the piece fits
-pub GivesAtMost-piece : (a b c : Option (List ℕ)) (bs buf : List ℕ) (n len limit : ℕ)
-    → Consumes a b bs → Consumes b c (take n buf)
-    → length bs ≡ len → n ≤ length buf → len ≤ limit → n ≤ limit - len → GivesAtMost limit a c
-GivesAtMost-piece a b c bs buf n len limit p q e most within fits =
-    (bs ++ take n buf, grind (arith, common_steps), Consumes-trans a b c bs (take n buf) p q)
+pub GivesAtMost-piece : (a b c : Option (List ℕ)) (bs piece : List ℕ) (len limit : ℕ)
+    → Consumes a b bs → Consumes b c piece
+    → length bs ≡ len → len ≤ limit → length piece ≤ limit - len → GivesAtMost limit a c
+GivesAtMost-piece a b c bs piece len limit p q e within fits =
+    (bs ++ piece, omega (arith, length-append bs piece), Consumes-trans a b c bs piece p q)
 
 -- the piece goes past the limit
-pub GivesMoreThan-piece : (a b c : Option (List ℕ)) (bs buf : List ℕ) (n len limit chunk : ℕ)
-    → Consumes a b bs → Consumes b c (take n buf)
-    → length bs ≡ len → n ≤ length buf → length buf ≡ chunk → len ≤ limit → limit - len < n
+pub GivesMoreThan-piece : (a b c : Option (List ℕ)) (bs piece : List ℕ) (len limit chunk : ℕ)
+    → Consumes a b bs → Consumes b c piece
+    → length bs ≡ len → len ≤ limit → length piece ≤ chunk → limit - len < length piece
     → GivesMoreThan limit (limit + chunk) a c
-GivesMoreThan-piece a b c bs buf n len limit chunk p q e most size within past = (
-  bs ++ take n buf,
-  grind (arith, common_steps),
-  grind (arith, common_steps),
-  Consumes-trans a b c bs (take n buf) p q,
+GivesMoreThan-piece a b c bs piece len limit chunk p q e within size past = (
+  bs ++ piece,
+  omega (arith, length-append bs piece),
+  omega (arith, length-append bs piece),
+  Consumes-trans a b c bs piece p q,
 )

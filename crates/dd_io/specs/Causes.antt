@@ -1,6 +1,10 @@
--- When a count of faults has risen.
+-- Counts of faults.
 use Rattle.std.specs.Prelude.{ℕ, ◌+◌, ◌-◌, ◌^◌, ◌≤◌, min}
 
--- the count rose from `before` to `now`, or stands at the last value of 64 bits, where it can't rise
+-- a count of 64 bits after one more, which stands still at its last value
+abbrev pub risen : ℕ → ℕ
+risen n = min (n + 1) (2 ^ 64 - 1)
+
+-- the count rose from `before` to `now`, or stands at its last value, where it can't rise
 abbrev pub Rose : ℕ → ℕ → Type 0
-Rose before now = min (before + 1) (2 ^ 64 - 1) ≤ now
+Rose before now = risen before ≤ now

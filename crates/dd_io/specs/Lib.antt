@@ -1,4 +1,5 @@
 -- The words that the contracts of the outside cite.
 pub mod Causes
 pub mod Transfer
-pub mod Memory
+pub mod Devices
+pub mod Edge

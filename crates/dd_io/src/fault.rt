@@ -2,7 +2,8 @@
 ghost use Rattle.std.specs.Prelude.{◌≡◌};
 ghost use Rattle.dd_io.specs.declared.fault.ReadUpFault.TheVariants as fault;
 
-use std::alloc::{AllocError, AllocFailed};
+use crate::OutOfMemory;
+use std::alloc::AllocFailed;
 use thiserror::Error;
 
 /// The device behind a source or a sink failed, and its count of faults rose.
@@ -32,10 +33,10 @@ impl From<Failed> for ReadUpFault {
     }
 }
 
-impl From<AllocError> for ReadUpFault {
+impl From<OutOfMemory> for ReadUpFault {
     ghost from_gives = { λ _ e. e ≡ fault.OutOfMemory };
 
-    fn from(_: AllocError) -> Self {
+    fn from(_: OutOfMemory) -> Self {
         ReadUpFault::OutOfMemory
     }
 }

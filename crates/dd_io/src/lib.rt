@@ -1,6 +1,7 @@
 //! The outside as traits: where bytes come from, where they go, and how often that failed.
 #![tactic(auto)]
 
+mod counted;
 mod fault;
 mod lists;
 mod mem;
@@ -16,7 +17,10 @@ pub use mem::{MemSink, MemSource};
 pub use sink::Sink;
 pub use source::Source;
 pub use std_io::{StdSink, StdSource};
-pub use transfer::{CHUNK, read_up_to, write_all};
+pub use transfer::{CHUNK, read_piece, read_up_to, write_all};
+
+/// There was no memory.
+pub use std::alloc::AllocError as OutOfMemory;
 
 #[cfg(test)]
 mod tests;

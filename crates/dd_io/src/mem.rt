@@ -1,6 +1,7 @@
 //! Devices in memory, which move their bytes in small pieces and fail where they are told to.
-ghost use Rattle.std.specs.Prelude.{◌≡◌, ◌↔◌, ◌<◌, ◌≤◌, [], ◌++◌, length, take, drop, min, Some, Contains, IsErr, IfOk, OnErr};
-ghost use Rattle.dd_io.specs.Memory.{fresh, risen, after_call, after_fault};
+ghost use Rattle.std.specs.Prelude.{◌≡◌, ◌↔◌, ◌<◌, ◌≤◌, ◌+◌, ◌⊎◌, [], ◌++◌, length, take, drop, min, Some, Contains, IsErr, IfOk, OnErr};
+ghost use Rattle.dd_io.specs.Causes.{risen};
+ghost use Rattle.dd_io.specs.Devices.{unused_device, after_call, after_fault};
 
 use crate::schedule::Schedule;
 use crate::{Bytes, Failed, Numbers, Sink, Source};
@@ -19,7 +20,7 @@ pub struct MemSource {
 // The place is within the bytes, and a call can give at least one.
 impl Model for MemSource {
     ghost use Rattle.std.specs.Prelude.{◌≤◌, drop, length};
-    ghost use Rattle.dd_io.specs.Memory.{Device};
+    ghost use Rattle.dd_io.specs.Devices.{Device};
 
     ghost Value = { Device };
 
@@ -39,7 +40,7 @@ impl MemSource {
     /// counted from 1, stand in `fails`.
     pub fn new(bytes: Bytes, piece: usize, fails: Numbers) -> Self
         requires { 1 ≤ piece }
-        ensures { result ≡ fresh bytes piece fails }
+        ensures { result ≡ unused_device bytes piece fails }
     {
         MemSource {
             bytes,
@@ -87,17 +88,20 @@ pub struct MemSink {
 
 // A call can take at least one byte.
 impl Model for MemSink {
-    ghost use Rattle.std.specs.Prelude.{◌≤◌};
-    ghost use Rattle.dd_io.specs.Memory.{Device};
+    ghost use Rattle.std.specs.Prelude.{◌≤◌, ◌-◌, vec_capacity, vec_len};
+    ghost use Rattle.dd_io.specs.Devices.{Keeper};
 
-    ghost Value = { Device };
+    ghost Value = { Keeper };
 
     ghost view = { λ a. record {
-      bytes = a.bytes.items;
-      piece = a.piece;
-      fails = a.schedule.fails;
-      calls = a.schedule.calls;
-      faults = a.schedule.faults;
+      device = record {
+        bytes = a.bytes.items;
+        piece = a.piece;
+        fails = a.schedule.fails;
+        calls = a.schedule.calls;
+        faults = a.schedule.faults;
+      };
+      room = vec_capacity a.bytes - vec_len a.bytes;
     } };
 
     ghost invariant = { λ a. 1 ≤ a.piece };
@@ -110,7 +114,7 @@ impl MemSink {
     /// It also fails where it finds no memory.
     pub fn new(alloc: Global, piece: usize, fails: Numbers) -> Self
         requires { 1 ≤ piece }
-        ensures { result ≡ fresh [] piece fails }
+        ensures { result.device ≡ unused_device [] piece fails }
     {
         MemSink {
             bytes: Vec::new(alloc),
@@ -121,25 +125,30 @@ impl MemSink {
 
     /// The bytes held.
     pub fn bytes(&self) -> &[u8]
-        ensures { result.now ≡ self.now.bytes }
+        ensures { result.now ≡ self.now.device.bytes }
     {
         &self.bytes
     }
 }
 
 impl Sink for MemSink {
-    ghost held = { λ s. Some s.bytes };
+    ghost held = { λ s. Some s.device.bytes };
 
-    ghost faults = { λ s. s.faults };
+    ghost faults = { λ s. s.device.faults };
 
     fn write(&mut self, b: &[u8]) -> Result<usize, Failed>
-        ensures fails { Contains self.old.fails (risen self.old.calls) → IsErr result }
-        ensures failed { OnErr result (self.new ≡ after_fault self.old) }
+        ensures fails { Contains self.old.device.fails (risen self.old.device.calls) → IsErr result }
+        // A call that isn't planned to fail fails only where memory was wanting.
+        ensures wants { IsErr result → Contains self.old.device.fails (risen self.old.device.calls)
+            ⊎ (self.old.room < min (length b.now) self.old.device.piece) }
+        ensures failed { OnErr result (self.new.device ≡ after_fault self.old.device) }
         ensures some { IfOk result (λ n. 0 < length b.now → 0 < n) }
-        ensures count { IfOk result (λ n. n ≡ min (length b.now) self.old.piece) }
+        ensures count { IfOk result (λ n. n ≡ min (length b.now) self.old.device.piece) }
         ensures appends { IfOk result (λ n.
-            self.new ≡ after_call self.old (self.old.bytes ++ take n b.now)) }
-        ensures later { self.old.faults ≤ self.new.faults }
+            self.new.device ≡ after_call self.old.device (self.old.device.bytes ++ take n b.now)) }
+        ensures room { IfOk result (λ n. self.old.room ≤ self.new.room + n) }
+        ensures failed_room { OnErr result (self.old.room ≤ self.new.room) }
+        ensures later { self.old.device.faults ≤ self.new.device.faults }
     {
         if self.schedule.next_fails() {
             self.schedule.fault();

@@ -1,6 +1,6 @@
 //! Which calls of a device in memory fail.
 ghost use Rattle.std.specs.Prelude.{◌≡◌, ◌↔◌, ◌≤◌, Contains, IsTrue};
-ghost use Rattle.dd_io.specs.Memory.{risen};
+ghost use Rattle.dd_io.specs.Causes.{risen};
 
 use crate::Numbers;
 

@@ -2,21 +2,21 @@
 ghost use Rattle.std.specs.Prelude.{◌≤◌};
 
 use crate::{
-    Bytes, Failed, MemSink, MemSource, Numbers, ReadUpFault, Sink, Source, StdSink, StdSource,
-    read_up_to, write_all,
+    Bytes, Failed, MemSink, MemSource, Numbers, OutOfMemory, ReadUpFault, Sink, Source, StdSink,
+    StdSource, read_up_to, write_all,
 };
-use std::alloc::{AllocError, Global};
+use std::alloc::Global;
 use std::io;
 use std::io::{Error, ErrorKind, Read, Write};
 use std::test::Fail;
 
 const TEXT: &[u8] = b"forty bytes, and the next one is the last";
 
-fn numbers(alloc: Global, items: &[u64]) -> Result<Numbers, AllocError> {
+fn numbers(alloc: Global, items: &[u64]) -> Result<Numbers, OutOfMemory> {
     Ok(Numbers::from_vec(items.to_vec(alloc)?))
 }
 
-fn text_source(alloc: Global, piece: usize, fails: &[u64]) -> Result<MemSource, AllocError>
+fn text_source(alloc: Global, piece: usize, fails: &[u64]) -> Result<MemSource, OutOfMemory>
     requires { 1 ≤ piece }
 {
     let bytes = Bytes::from_vec(TEXT.to_vec(alloc)?);
@@ -204,7 +204,7 @@ fn faults_are_told(rt: HostRuntime) -> Result<(), Fail> {
     let cases = [
         (ReadUpFault::from(Failed), "reading failed"),
         (ReadUpFault::TooLong, "the input is longer than the limit"),
-        (ReadUpFault::from(AllocError), "out of memory"),
+        (ReadUpFault::from(OutOfMemory), "out of memory"),
     ];
     for (fault, text) in cases {
         assert_eq!(rt; format!(in alloc; "{fault}")?.as_str(), text);

@@ -1,6 +1,7 @@
 -- Whole runs, computed from the bytes of a script to the bytes of its answers.
-use Rattle.std.proofs.Common.{◌≡◌, ℕ, List, ◌++◌, ◌∷◌, [], codes, Option, Some, refl}
+use Rattle.std.proofs.Common.{◌≡◌, ℕ, List, ◌++◌, ◌∷◌, [], codes, map, replicate, Some, refl}
 use Rattle.std.specs.Prelude.{option_map, option_and_then}
+use Rattle.std.specs.List.{flat_map}
 use Rattle.std.specs.Fmt.{digits}
 use Rattle.serde_json.specs.Read.{read}
 use Rattle.hex.specs.Hex.{encode_with}
@@ -15,143 +16,140 @@ use Rattle.dd_script.specs.Script.{script_of}
 use Rattle.dd_script.specs.Answers.{point_tree, rect_tree, move_tree, info_tree, frame_tree, row_digits, surface_tree, refusal_tree, log_refusal_tree, open_refusal_tree, dup_refusal_tree, answer_tree}
 use Rattle.dd_script.specs.Texts.{line, text}
 use Rattle.dd_script.proofs.OnLiterals.{script_on_literals}
+use Rattle.dd_prog.specs.declared.reading.TheConstants.{MAX_SCRIPT_BYTES}
 
--- what a replay of these bytes writes, if they are a script
-abbrev replayed : List ℕ → Option (List ℕ)
-replayed bytes = option_map (λ s. text (run s)) (option_and_then script_of (read bytes))
+-- the texts with commas between them
+abbrev separated : List (List ℕ) → List ℕ
+separated [] = []
+separated (x ∷ []) = x
+separated (x ∷ y ∷ xs) = x ++ codes "," ++ separated (y ∷ xs)
+
+-- the text of a script of a screen of 4 by 3 points and one client
+abbrev script_with : List (List ℕ) → List ℕ
+script_with steps =
+    codes "{\"modes\":[[4,3,1]],\"capacity\":100,\"privileged\":[],\"clients\":[1],\"steps\":["
+    ++ separated steps
+    ++ codes "]}"
+
+-- the script of these steps has a run that gives these answers
+abbrev Gives : List (List ℕ) → List (List ℕ) → Type 0
+Gives steps answers =
+    option_map (λ s. text (run s)) (option_and_then script_of (read (script_with steps)))
+    ≡ Some (flat_map (λ a. a ++ 10 ∷ []) answers)
+
+-- steps
+abbrev duplicate : List ℕ
+duplicate = codes "{\"client\":1,\"call\":\"duplicate\"}"
+
+abbrev acquire : List ℕ
+acquire = codes "{\"client\":1,\"call\":\"acquire\"}"
+
+abbrev release : List ℕ
+release = codes "{\"client\":1,\"call\":\"release\"}"
+
+abbrev surface : List ℕ
+surface = codes "{\"client\":1,\"call\":\"surface\"}"
+
+abbrev present : List (List ℕ) → List ℕ
+present ops = codes "{\"present\":[" ++ separated ops ++ codes "]}"
+
+abbrev fill : List ℕ → List ℕ → List ℕ
+fill rect colour = codes "{\"fill\":[" ++ rect ++ codes "],\"colour\":\"" ++ colour ++ codes "\"}"
+
+abbrev scroll : List ℕ → List ℕ → List ℕ
+scroll rect from = codes "{\"scroll\":[" ++ rect ++ codes "],\"from\":[" ++ from ++ codes "]}"
+
+abbrev blit : List ℕ → List ℕ → List ℕ
+blit rect colours = codes "{\"blit\":[" ++ rect ++ codes "],\"colours\":\"" ++ colours ++ codes "\"}"
+
+-- answers
+abbrev opened : List ℕ
+opened = codes "{\"entry\":1,\"slot\":0}"
+
+abbrev entered : List ℕ → List ℕ
+entered n = codes "{\"entry\":" ++ n ++ codes "}"
+
+abbrev released : List ℕ
+released = codes "{\"released\":true}"
+
+abbrev bad_rect : List ℕ → List ℕ
+bad_rect op = codes "{\"code\":\"80070057\",\"op\":" ++ op ++ codes ",\"refused\":\"BadRect\"}"
+
+abbrev frame : List ℕ → List ℕ → List ℕ → List ℕ → List ℕ → List ℕ
+frame rects accumulated meta last told_moves =
+    codes "{\"dirty\":[" ++ rects ++ codes "],\"frame\":{\"accumulated\":" ++ accumulated
+    ++ codes ",\"coalesced\":false,\"meta\":" ++ meta
+    ++ codes ",\"mouse\":0,\"pointer\":[0,0],\"present\":" ++ last
+    ++ codes ",\"protected\":false,\"shape\":0,\"visible\":false},\"moves\":[" ++ told_moves ++ codes "]}"
+
+abbrev shown : List ℕ → List ℕ → List ℕ → List ℕ
+shown a b c = codes "{\"surface\":[\"" ++ a ++ codes "\",\"" ++ b ++ codes "\",\"" ++ c ++ codes "\"]}"
+
+-- one row of the screen, where nothing was drawn
+abbrev black : List ℕ
+black = codes "000000000000000000000000"
 
 -- one fill, acquired and shown
-one_fill : replayed (codes "{\"modes\":[[4,3,1]],\"capacity\":100,\"privileged\":[],\"clients\":[1],\"steps\":[{\"client\":1,\"call\":\"duplicate\"},{\"present\":[{\"fill\":[1,1,3,2],\"colour\":\"ff0000\"}]},{\"client\":1,\"call\":\"acquire\"},{\"client\":1,\"call\":\"surface\"}]}")
-    ≡ Some (codes "{\"entry\":1,\"slot\":0}" ++ 10 ∷ []
-    ++ codes "{\"entry\":2}" ++ 10 ∷ []
-    ++ codes "{\"dirty\":[[1,1,3,2]],\"frame\":{\"accumulated\":1,\"coalesced\":false,\"meta\":16,\"mouse\":0,\"pointer\":[0,0],\"present\":2,\"protected\":false,\"shape\":0,\"visible\":false},\"moves\":[]}" ++ 10 ∷ []
-    ++ codes "{\"surface\":[\"000000000000000000000000\",\"000000ff0000ff0000000000\",\"000000000000000000000000\"]}" ++ 10 ∷ [])
-unfolding script_on_literals next run text line digits encode_with picture presents dirtied dirt is_coalesced moves canonical_list same_rows run_end tiles power least_power_from dirt_of news_of point_tree rect_tree move_tree info_tree frame_tree row_digits surface_tree refusal_tree log_refusal_tree open_refusal_tree dup_refusal_tree answer_tree
-one_fill = refl
-
--- nothing is new
-timeout : replayed (codes "{\"modes\":[[4,3,1]],\"capacity\":100,\"privileged\":[],\"clients\":[1],\"steps\":[{\"client\":1,\"call\":\"duplicate\"},{\"client\":1,\"call\":\"acquire\"}]}")
-    ≡ Some (codes "{\"entry\":1,\"slot\":0}" ++ 10 ∷ [] ++ codes "{\"code\":\"887a0027\",\"refused\":\"WaitTimeout\"}" ++ 10 ∷ [])
-unfolding script_on_literals next run text line digits encode_with picture presents dirtied dirt is_coalesced moves canonical_list same_rows run_end tiles power least_power_from dirt_of news_of point_tree rect_tree move_tree info_tree frame_tree row_digits surface_tree refusal_tree log_refusal_tree open_refusal_tree dup_refusal_tree answer_tree
-timeout = refl
-
--- a fill two rows high is one rectangle
-two_rows : replayed (codes "{\"modes\":[[4,3,1]],\"capacity\":100,\"privileged\":[],\"clients\":[1],\"steps\":[{\"client\":1,\"call\":\"duplicate\"},{\"present\":[{\"fill\":[0,0,2,2],\"colour\":\"00ff00\"}]},{\"client\":1,\"call\":\"acquire\"}]}")
-    ≡ Some (codes "{\"entry\":1,\"slot\":0}" ++ 10 ∷ []
-    ++ codes "{\"entry\":2}" ++ 10 ∷ []
-    ++ codes "{\"dirty\":[[0,0,2,2]],\"frame\":{\"accumulated\":1,\"coalesced\":false,\"meta\":16,\"mouse\":0,\"pointer\":[0,0],\"present\":2,\"protected\":false,\"shape\":0,\"visible\":false},\"moves\":[]}" ++ 10 ∷ [])
-unfolding script_on_literals next run text line digits encode_with picture presents dirtied dirt is_coalesced moves canonical_list same_rows run_end tiles power least_power_from dirt_of news_of point_tree rect_tree move_tree info_tree frame_tree row_digits surface_tree refusal_tree log_refusal_tree open_refusal_tree dup_refusal_tree answer_tree
-two_rows = refl
-
--- a frame is held once, and released once
-held_or_not : replayed (codes "{\"modes\":[[4,3,1]],\"capacity\":100,\"privileged\":[],\"clients\":[1],\"steps\":[{\"client\":1,\"call\":\"duplicate\"},{\"present\":[{\"fill\":[1,1,3,2],\"colour\":\"ff0000\"}]},{\"client\":1,\"call\":\"acquire\"},{\"client\":1,\"call\":\"acquire\"},{\"client\":1,\"call\":\"release\"},{\"client\":1,\"call\":\"release\"}]}")
-    ≡ Some (codes "{\"entry\":1,\"slot\":0}" ++ 10 ∷ []
-    ++ codes "{\"entry\":2}" ++ 10 ∷ []
-    ++ codes "{\"dirty\":[[1,1,3,2]],\"frame\":{\"accumulated\":1,\"coalesced\":false,\"meta\":16,\"mouse\":0,\"pointer\":[0,0],\"present\":2,\"protected\":false,\"shape\":0,\"visible\":false},\"moves\":[]}" ++ 10 ∷ []
-    ++ codes "{\"code\":\"887a0001\",\"refused\":\"InvalidCall\"}" ++ 10 ∷ []
-    ++ codes "{\"released\":true}" ++ 10 ∷ []
-    ++ codes "{\"code\":\"887a0001\",\"refused\":\"InvalidCall\"}" ++ 10 ∷ [])
-unfolding script_on_literals next run text line digits encode_with picture presents dirtied dirt is_coalesced moves canonical_list same_rows run_end tiles power least_power_from dirt_of news_of point_tree rect_tree move_tree info_tree frame_tree row_digits surface_tree refusal_tree log_refusal_tree open_refusal_tree dup_refusal_tree answer_tree
-held_or_not = refl
-
--- a present of no operations is news, with no dirt
-no_operations : replayed (codes "{\"modes\":[[4,3,1]],\"capacity\":100,\"privileged\":[],\"clients\":[1],\"steps\":[{\"client\":1,\"call\":\"duplicate\"},{\"present\":[]},{\"client\":1,\"call\":\"acquire\"}]}")
-    ≡ Some (codes "{\"entry\":1,\"slot\":0}" ++ 10 ∷ []
-    ++ codes "{\"entry\":2}" ++ 10 ∷ []
-    ++ codes "{\"dirty\":[],\"frame\":{\"accumulated\":1,\"coalesced\":false,\"meta\":0,\"mouse\":0,\"pointer\":[0,0],\"present\":2,\"protected\":false,\"shape\":0,\"visible\":false},\"moves\":[]}" ++ 10 ∷ [])
-unfolding script_on_literals next run text line digits encode_with picture presents dirtied dirt is_coalesced moves canonical_list same_rows run_end tiles power least_power_from dirt_of news_of point_tree rect_tree move_tree info_tree frame_tree row_digits surface_tree refusal_tree log_refusal_tree open_refusal_tree dup_refusal_tree answer_tree
-no_operations = refl
-
--- a scroll of what is clean is a move and leaves no dirt
-a_move : replayed (codes "{\"modes\":[[4,3,1]],\"capacity\":100,\"privileged\":[],\"clients\":[1],\"steps\":[{\"client\":1,\"call\":\"duplicate\"},{\"present\":[{\"fill\":[1,1,3,2],\"colour\":\"ff0000\"}]},{\"client\":1,\"call\":\"acquire\"},{\"client\":1,\"call\":\"surface\"},{\"client\":1,\"call\":\"release\"},{\"present\":[{\"scroll\":[2,0,4,1],\"from\":[0,0]}]},{\"client\":1,\"call\":\"acquire\"}]}")
-    ≡ Some (codes "{\"entry\":1,\"slot\":0}" ++ 10 ∷ []
-    ++ codes "{\"entry\":2}" ++ 10 ∷ []
-    ++ codes "{\"dirty\":[[1,1,3,2]],\"frame\":{\"accumulated\":1,\"coalesced\":false,\"meta\":16,\"mouse\":0,\"pointer\":[0,0],\"present\":2,\"protected\":false,\"shape\":0,\"visible\":false},\"moves\":[]}" ++ 10 ∷ []
-    ++ codes "{\"surface\":[\"000000000000000000000000\",\"000000ff0000ff0000000000\",\"000000000000000000000000\"]}" ++ 10 ∷ []
-    ++ codes "{\"released\":true}" ++ 10 ∷ []
-    ++ codes "{\"entry\":3}" ++ 10 ∷ []
-    ++ codes "{\"dirty\":[],\"frame\":{\"accumulated\":1,\"coalesced\":false,\"meta\":24,\"mouse\":0,\"pointer\":[0,0],\"present\":3,\"protected\":false,\"shape\":0,\"visible\":false},\"moves\":[[0,0,2,0,4,1]]}" ++ 10 ∷ [])
-unfolding script_on_literals next run text line digits encode_with picture presents dirtied dirt is_coalesced moves canonical_list same_rows run_end tiles power least_power_from dirt_of news_of point_tree rect_tree move_tree info_tree frame_tree row_digits surface_tree refusal_tree log_refusal_tree open_refusal_tree dup_refusal_tree answer_tree
-a_move = refl
-
--- a scroll over itself carries the dirt of its source along
-dirt_is_carried : replayed (codes "{\"modes\":[[4,3,1]],\"capacity\":100,\"privileged\":[],\"clients\":[1],\"steps\":[{\"client\":1,\"call\":\"duplicate\"},{\"present\":[{\"fill\":[0,0,2,1],\"colour\":\"ff0000\"}]},{\"present\":[{\"scroll\":[1,0,3,1],\"from\":[0,0]}]},{\"client\":1,\"call\":\"acquire\"},{\"client\":1,\"call\":\"surface\"}]}")
-    ≡ Some (codes "{\"entry\":1,\"slot\":0}" ++ 10 ∷ []
-    ++ codes "{\"entry\":2}" ++ 10 ∷ []
-    ++ codes "{\"entry\":3}" ++ 10 ∷ []
-    ++ codes "{\"dirty\":[[0,0,3,1]],\"frame\":{\"accumulated\":2,\"coalesced\":false,\"meta\":40,\"mouse\":0,\"pointer\":[0,0],\"present\":3,\"protected\":false,\"shape\":0,\"visible\":false},\"moves\":[[0,0,1,0,3,1]]}" ++ 10 ∷ []
-    ++ codes "{\"surface\":[\"ff0000ff0000ff0000000000\",\"000000000000000000000000\",\"000000000000000000000000\"]}" ++ 10 ∷ [])
-unfolding script_on_literals next run text line digits encode_with picture presents dirtied dirt is_coalesced moves canonical_list same_rows run_end tiles power least_power_from dirt_of news_of point_tree rect_tree move_tree info_tree frame_tree row_digits surface_tree refusal_tree log_refusal_tree open_refusal_tree dup_refusal_tree answer_tree
-dirt_is_carried = refl
-
--- no dirt stays under a destination whose source is clean
-no_dirt_under_a_scroll : replayed (codes "{\"modes\":[[4,3,1]],\"capacity\":100,\"privileged\":[],\"clients\":[1],\"steps\":[{\"client\":1,\"call\":\"duplicate\"},{\"present\":[{\"fill\":[2,0,3,1],\"colour\":\"ff0000\"}]},{\"present\":[{\"scroll\":[2,0,3,1],\"from\":[0,0]}]},{\"client\":1,\"call\":\"acquire\"}]}")
-    ≡ Some (codes "{\"entry\":1,\"slot\":0}" ++ 10 ∷ []
-    ++ codes "{\"entry\":2}" ++ 10 ∷ []
-    ++ codes "{\"entry\":3}" ++ 10 ∷ []
-    ++ codes "{\"dirty\":[],\"frame\":{\"accumulated\":2,\"coalesced\":false,\"meta\":24,\"mouse\":0,\"pointer\":[0,0],\"present\":3,\"protected\":false,\"shape\":0,\"visible\":false},\"moves\":[[0,0,2,0,3,1]]}" ++ 10 ∷ [])
-unfolding script_on_literals next run text line digits encode_with picture presents dirtied dirt is_coalesced moves canonical_list same_rows run_end tiles power least_power_from dirt_of news_of point_tree rect_tree move_tree info_tree frame_tree row_digits surface_tree refusal_tree log_refusal_tree open_refusal_tree dup_refusal_tree answer_tree
-no_dirt_under_a_scroll = refl
-
--- sixteen scrolls are moves, and the seventeenth is a draw of its destination
-seventeen_scrolls : replayed (codes "{\"modes\":[[4,3,1]],\"capacity\":100,\"privileged\":[],\"clients\":[1],\"steps\":[{\"client\":1,\"call\":\"duplicate\"},{\"present\":[{\"scroll\":[0,1,4,2],\"from\":[0,0]}]},{\"present\":[{\"scroll\":[0,1,4,2],\"from\":[0,0]}]},{\"present\":[{\"scroll\":[0,1,4,2],\"from\":[0,0]}]},{\"present\":[{\"scroll\":[0,1,4,2],\"from\":[0,0]}]},{\"present\":[{\"scroll\":[0,1,4,2],\"from\":[0,0]}]},{\"present\":[{\"scroll\":[0,1,4,2],\"from\":[0,0]}]},{\"present\":[{\"scroll\":[0,1,4,2],\"from\":[0,0]}]},{\"present\":[{\"scroll\":[0,1,4,2],\"from\":[0,0]}]},{\"present\":[{\"scroll\":[0,1,4,2],\"from\":[0,0]}]},{\"present\":[{\"scroll\":[0,1,4,2],\"from\":[0,0]}]},{\"present\":[{\"scroll\":[0,1,4,2],\"from\":[0,0]}]},{\"present\":[{\"scroll\":[0,1,4,2],\"from\":[0,0]}]},{\"present\":[{\"scroll\":[0,1,4,2],\"from\":[0,0]}]},{\"present\":[{\"scroll\":[0,1,4,2],\"from\":[0,0]}]},{\"present\":[{\"scroll\":[0,1,4,2],\"from\":[0,0]}]},{\"present\":[{\"scroll\":[0,1,4,2],\"from\":[0,0]}]},{\"present\":[{\"scroll\":[0,1,4,2],\"from\":[0,0]}]},{\"client\":1,\"call\":\"acquire\"}]}")
-    ≡ Some (codes "{\"entry\":1,\"slot\":0}" ++ 10 ∷ []
-    ++ codes "{\"entry\":2}" ++ 10 ∷ []
-    ++ codes "{\"entry\":3}" ++ 10 ∷ []
-    ++ codes "{\"entry\":4}" ++ 10 ∷ []
-    ++ codes "{\"entry\":5}" ++ 10 ∷ []
-    ++ codes "{\"entry\":6}" ++ 10 ∷ []
-    ++ codes "{\"entry\":7}" ++ 10 ∷ []
-    ++ codes "{\"entry\":8}" ++ 10 ∷ []
-    ++ codes "{\"entry\":9}" ++ 10 ∷ []
-    ++ codes "{\"entry\":10}" ++ 10 ∷ []
-    ++ codes "{\"entry\":11}" ++ 10 ∷ []
-    ++ codes "{\"entry\":12}" ++ 10 ∷ []
-    ++ codes "{\"entry\":13}" ++ 10 ∷ []
-    ++ codes "{\"entry\":14}" ++ 10 ∷ []
-    ++ codes "{\"entry\":15}" ++ 10 ∷ []
-    ++ codes "{\"entry\":16}" ++ 10 ∷ []
-    ++ codes "{\"entry\":17}" ++ 10 ∷ []
-    ++ codes "{\"entry\":18}" ++ 10 ∷ []
-    ++ codes "{\"dirty\":[[0,1,4,2]],\"frame\":{\"accumulated\":17,\"coalesced\":false,\"meta\":400,\"mouse\":0,\"pointer\":[0,0],\"present\":18,\"protected\":false,\"shape\":0,\"visible\":false},\"moves\":[[0,0,0,1,4,2],[0,0,0,1,4,2],[0,0,0,1,4,2],[0,0,0,1,4,2],[0,0,0,1,4,2],[0,0,0,1,4,2],[0,0,0,1,4,2],[0,0,0,1,4,2],[0,0,0,1,4,2],[0,0,0,1,4,2],[0,0,0,1,4,2],[0,0,0,1,4,2],[0,0,0,1,4,2],[0,0,0,1,4,2],[0,0,0,1,4,2],[0,0,0,1,4,2]]}" ++ 10 ∷ [])
-unfolding script_on_literals next run text line digits encode_with picture presents dirtied dirt is_coalesced moves canonical_list same_rows run_end tiles power least_power_from dirt_of news_of point_tree rect_tree move_tree info_tree frame_tree row_digits surface_tree refusal_tree log_refusal_tree open_refusal_tree dup_refusal_tree answer_tree
-seventeen_scrolls = refl
-
--- a fill one column past the right side is refused, and nothing is new
-outside : replayed (codes "{\"modes\":[[4,3,1]],\"capacity\":100,\"privileged\":[],\"clients\":[1],\"steps\":[{\"client\":1,\"call\":\"duplicate\"},{\"present\":[{\"fill\":[3,0,5,1],\"colour\":\"ff0000\"}]},{\"client\":1,\"call\":\"acquire\"}]}")
-    ≡ Some (codes "{\"entry\":1,\"slot\":0}" ++ 10 ∷ []
-    ++ codes "{\"code\":\"80070057\",\"op\":0,\"refused\":\"BadRect\"}" ++ 10 ∷ []
-    ++ codes "{\"code\":\"887a0027\",\"refused\":\"WaitTimeout\"}" ++ 10 ∷ [])
-unfolding script_on_literals next run text line digits encode_with picture presents dirtied dirt is_coalesced moves canonical_list same_rows run_end tiles power least_power_from dirt_of news_of point_tree rect_tree move_tree info_tree frame_tree row_digits surface_tree refusal_tree log_refusal_tree open_refusal_tree dup_refusal_tree answer_tree
-outside = refl
-
--- an image stands upright at its place; one of too few colours is refused, by its place in the present
-an_image : replayed (codes "{\"modes\":[[4,3,1]],\"capacity\":100,\"privileged\":[],\"clients\":[1],\"steps\":[{\"client\":1,\"call\":\"duplicate\"},{\"present\":[{\"blit\":[1,0,3,2],\"colours\":\"000001000002000003000004\"}]},{\"present\":[{\"fill\":[0,0,1,1],\"colour\":\"ff0000\"},{\"blit\":[0,0,2,1],\"colours\":\"000001\"}]},{\"client\":1,\"call\":\"acquire\"},{\"client\":1,\"call\":\"surface\"}]}")
-    ≡ Some (codes "{\"entry\":1,\"slot\":0}" ++ 10 ∷ []
-    ++ codes "{\"entry\":2}" ++ 10 ∷ []
-    ++ codes "{\"code\":\"80070057\",\"op\":1,\"refused\":\"BadRect\"}" ++ 10 ∷ []
-    ++ codes "{\"dirty\":[[1,0,3,2]],\"frame\":{\"accumulated\":1,\"coalesced\":false,\"meta\":16,\"mouse\":0,\"pointer\":[0,0],\"present\":2,\"protected\":false,\"shape\":0,\"visible\":false},\"moves\":[]}" ++ 10 ∷ []
-    ++ codes "{\"surface\":[\"000000000001000002000000\",\"000000000003000004000000\",\"000000000000000000000000\"]}" ++ 10 ∷ [])
-unfolding script_on_literals next run text line digits encode_with picture presents dirtied dirt is_coalesced moves canonical_list same_rows run_end tiles power least_power_from dirt_of news_of point_tree rect_tree move_tree info_tree frame_tree row_digits surface_tree refusal_tree log_refusal_tree open_refusal_tree dup_refusal_tree answer_tree
-an_image = refl
-
--- two moves of one frame, the second of what the first brought
-moves_in_order : replayed (codes "{\"modes\":[[4,3,1]],\"capacity\":100,\"privileged\":[],\"clients\":[1],\"steps\":[{\"client\":1,\"call\":\"duplicate\"},{\"present\":[{\"fill\":[0,0,1,1],\"colour\":\"ff0000\"}]},{\"client\":1,\"call\":\"acquire\"},{\"client\":1,\"call\":\"release\"},{\"present\":[{\"scroll\":[1,0,2,1],\"from\":[0,0]}]},{\"present\":[{\"scroll\":[3,2,4,3],\"from\":[1,0]}]},{\"client\":1,\"call\":\"acquire\"},{\"client\":1,\"call\":\"surface\"}]}")
-    ≡ Some (codes "{\"entry\":1,\"slot\":0}" ++ 10 ∷ []
-    ++ codes "{\"entry\":2}" ++ 10 ∷ []
-    ++ codes "{\"dirty\":[[0,0,1,1]],\"frame\":{\"accumulated\":1,\"coalesced\":false,\"meta\":16,\"mouse\":0,\"pointer\":[0,0],\"present\":2,\"protected\":false,\"shape\":0,\"visible\":false},\"moves\":[]}" ++ 10 ∷ []
-    ++ codes "{\"released\":true}" ++ 10 ∷ []
-    ++ codes "{\"entry\":3}" ++ 10 ∷ []
-    ++ codes "{\"entry\":4}" ++ 10 ∷ []
-    ++ codes "{\"dirty\":[],\"frame\":{\"accumulated\":2,\"coalesced\":false,\"meta\":48,\"mouse\":0,\"pointer\":[0,0],\"present\":4,\"protected\":false,\"shape\":0,\"visible\":false},\"moves\":[[0,0,1,0,2,1],[1,0,3,2,4,3]]}" ++ 10 ∷ []
-    ++ codes "{\"surface\":[\"ff0000ff0000000000000000\",\"000000000000000000000000\",\"000000000000000000ff0000\"]}" ++ 10 ∷ [])
-unfolding script_on_literals next run text line digits encode_with picture presents dirtied dirt is_coalesced moves canonical_list same_rows run_end tiles power least_power_from dirt_of news_of point_tree rect_tree move_tree info_tree frame_tree row_digits surface_tree refusal_tree log_refusal_tree open_refusal_tree dup_refusal_tree answer_tree
-moves_in_order = refl
+abbrev OneFill : Type 0
+OneFill = Gives
+    (duplicate ∷ present (fill (codes "1,1,3,2") (codes "ff0000") ∷ []) ∷ acquire ∷ surface ∷ [])
+    (opened ∷ entered (codes "2") ∷ frame (codes "[1,1,3,2]") (codes "1") (codes "16") (codes "2") []
+    ∷ shown black (codes "000000ff0000ff0000000000") black ∷ [])
 
 -- two fills that overlap are cut into bands of equal rows
-in_bands : replayed (codes "{\"modes\":[[4,3,1]],\"capacity\":100,\"privileged\":[],\"clients\":[1],\"steps\":[{\"client\":1,\"call\":\"duplicate\"},{\"present\":[{\"fill\":[0,0,1,2],\"colour\":\"ff0000\"},{\"fill\":[0,0,3,1],\"colour\":\"00ff00\"}]},{\"client\":1,\"call\":\"acquire\"}]}")
-    ≡ Some (codes "{\"entry\":1,\"slot\":0}" ++ 10 ∷ []
-    ++ codes "{\"entry\":2}" ++ 10 ∷ []
-    ++ codes "{\"dirty\":[[0,0,3,1],[0,1,1,2]],\"frame\":{\"accumulated\":1,\"coalesced\":false,\"meta\":32,\"mouse\":0,\"pointer\":[0,0],\"present\":2,\"protected\":false,\"shape\":0,\"visible\":false},\"moves\":[]}" ++ 10 ∷ [])
-unfolding script_on_literals next run text line digits encode_with picture presents dirtied dirt is_coalesced moves canonical_list same_rows run_end tiles power least_power_from dirt_of news_of point_tree rect_tree move_tree info_tree frame_tree row_digits surface_tree refusal_tree log_refusal_tree open_refusal_tree dup_refusal_tree answer_tree
-in_bands = refl
+abbrev InBands : Type 0
+InBands = Gives
+    (duplicate ∷ present (fill (codes "0,0,1,2") (codes "ff0000") ∷ fill (codes "0,0,3,1") (codes "00ff00") ∷ [])
+    ∷ acquire ∷ [])
+    (opened ∷ entered (codes "2") ∷ frame (codes "[0,0,3,1],[0,1,1,2]") (codes "1") (codes "32") (codes "2") [] ∷ [])
+
+-- a scroll over itself carries the dirt of its source along
+abbrev DirtIsCarried : Type 0
+DirtIsCarried = Gives
+    (duplicate ∷ present (fill (codes "0,0,2,1") (codes "ff0000") ∷ [])
+    ∷ present (scroll (codes "1,0,3,1") (codes "0,0") ∷ [])
+    ∷ acquire ∷ surface ∷ [])
+    (opened ∷ entered (codes "2") ∷ entered (codes "3")
+    ∷ frame (codes "[0,0,3,1]") (codes "2") (codes "40") (codes "3") (codes "[0,0,1,0,3,1]")
+    ∷ shown (codes "ff0000ff0000ff0000000000") black black ∷ [])
+
+-- sixteen scrolls are moves, and the seventeenth is a draw of its destination
+abbrev SeventeenScrolls : Type 0
+SeventeenScrolls = Gives
+    (duplicate ∷ replicate 17 (present (scroll (codes "0,1,4,2") (codes "0,0") ∷ [])) ++ acquire ∷ [])
+    (opened ∷ map entered
+    (codes "2" ∷ codes "3" ∷ codes "4" ∷ codes "5" ∷ codes "6" ∷ codes "7" ∷ codes "8" ∷ codes "9" ∷ codes "10"
+    ∷ codes "11" ∷ codes "12" ∷ codes "13" ∷ codes "14" ∷ codes "15" ∷ codes "16" ∷ codes "17" ∷ codes "18" ∷ [])
+    ++ frame (codes "[0,1,4,2]") (codes "17") (codes "400") (codes "18") (separated (replicate 16 (codes "[0,0,0,1,4,2]"))) ∷ [])
+
+-- an image stands upright at its place; one of too few colours is refused, by its place in the present
+abbrev AnImage : Type 0
+AnImage = Gives
+    (duplicate ∷ present (blit (codes "1,0,3,2") (codes "000001000002000003000004") ∷ [])
+    ∷ present (fill (codes "0,0,1,1") (codes "ff0000") ∷ blit (codes "0,0,2,1") (codes "000001") ∷ []) ∷ acquire
+    ∷ surface ∷ [])
+    (opened ∷ entered (codes "2") ∷ bad_rect (codes "1")
+    ∷ frame (codes "[1,0,3,2]") (codes "1") (codes "16") (codes "2") []
+    ∷ shown (codes "000000000001000002000000") (codes "000000000003000004000000") black ∷ [])
+
+-- two moves of one frame, the second of what the first brought
+abbrev MovesInOrder : Type 0
+MovesInOrder = Gives
+    (duplicate ∷ present (fill (codes "0,0,1,1") (codes "ff0000") ∷ []) ∷ acquire ∷ release
+    ∷ present (scroll (codes "1,0,2,1") (codes "0,0") ∷ []) ∷ present (scroll (codes "3,2,4,3") (codes "1,0")
+    ∷ []) ∷ acquire ∷ surface ∷ [])
+    (opened ∷ entered (codes "2") ∷ frame (codes "[0,0,1,1]") (codes "1") (codes "16") (codes "2") [] ∷ released
+    ∷ entered (codes "3") ∷ entered (codes "4")
+    ∷ frame [] (codes "2") (codes "48") (codes "4") (codes "[0,0,1,0,2,1],[1,0,3,2,4,3]")
+    ∷ shown (codes "ff0000ff0000000000000000") black (codes "000000000000000000ff0000") ∷ [])
+
+runs : OneFill × InBands × DirtIsCarried × SeventeenScrolls × AnImage × MovesInOrder
+unfolding script_on_literals next run text line digits encode_with picture presents dirtied dirt is_coalesced moves
+    canonical_list same_rows run_end tiles power least_power_from dirt_of news_of point_tree rect_tree move_tree
+    info_tree frame_tree row_digits surface_tree refusal_tree log_refusal_tree open_refusal_tree dup_refusal_tree
+    answer_tree
+runs = (refl, refl, refl, refl, refl, refl)
+
+-- the longest script, in bytes
+longest_script : MAX_SCRIPT_BYTES ≡ 16777216
+longest_script = refl

@@ -1,20 +1,49 @@
-//! The top call over a source and a sink.
+//! The commands, and the top call over a source and a sink.
 
-ghost use Rattle.std.specs.Prelude.{◌≡◌, ◌↔◌, ◌≤◌, true, false, map, string_bytes};
-ghost use Rattle.dd_prog.specs.Outcome.{is_command, Replays, IfTold, Fits, Completes};
+ghost use Rattle.std.specs.Prelude.{◌≡◌, ◌↔◌, ◌≤◌, None, IfSome, map, string_bytes};
+ghost use Rattle.dd_prog.specs.Commands.{command_of, work};
+ghost use Rattle.dd_prog.specs.Exchange.{side, IfTold};
+ghost use Rattle.dd_prog.specs.Outcome.{Ends, Fits, Completes};
 
 use crate::replay::replay;
 use crate::status::Status;
 use dd_io::{Sink, Source};
 use std::alloc::Global;
 
-/// Whether the words are the one command, `replay` alone.
-fn is_replay(words: &[String]) -> bool
-    ensures { result ≡ is_command (map string_bytes words.now) }
+/// What the program can do.
+#[derive(Clone, Copy, Debug, PartialEq, Eq)]
+pub enum Command {
+    /// Reads a script, and writes one line for the answer of each of its steps.
+    Replay,
+}
+
+/// The command that the words are.
+fn command_of(words: &[String]) -> Option<Command>
+    ensures { result ≡ command_of (map string_bytes words.now) }
 {
     match words {
-        [word] => word.as_str() == "replay",
-        _ => false,
+        [word] if word.as_str() == "replay" => Some(Command::Replay),
+        _ => None,
+    }
+}
+
+/// Does one command.
+fn perform<S: Source, K: Sink>(
+    alloc: Global,
+    command: Command,
+    source: &mut S,
+    sink: &mut K,
+) -> Status
+    ensures outcome { Ends (work command) (record {
+      source = side S.left S.faults source.old source.new;
+      sink = side K.held K.faults sink.old sink.new;
+    }) result }
+    ensures told { IfTold (side S.left S.faults source.old source.new) (Fits (work command) result) }
+    ensures later_read { S.faults source.old ≤ S.faults source.new }
+    ensures later_write { K.faults sink.old ≤ K.faults sink.new }
+{
+    match command {
+        Command::Replay => replay(alloc, source, sink),
     }
 }
 
@@ -27,23 +56,27 @@ pub fn plain<S: Source, K: Sink>(
     sink: &mut K,
 ) -> Status
     // The words are no command, and nothing was read or written.
-    ensures words { (result ≡ Status.BadWords) ↔ (is_command (map string_bytes words.now.items) ≡ false) }
+    ensures words { (result ≡ Status.BadWords) ↔ (command_of (map string_bytes words.now.items) ≡ None) }
     ensures idle { result ≡ Status.BadWords → (source.new ≡ source.old) × (sink.new ≡ sink.old) }
-    // Done: the input was read to its end, and what was written is the text of the answers of the
-    // run of the script that it is, nothing else. The other statuses come only where their causes stood.
-    ensures outcome { is_command (map string_bytes words.now.items) ≡ true →
-        Replays result (S.left source.old) (S.left source.new) (S.faults source.old) (S.faults source.new)
-        (K.held sink.old) (K.held sink.new) (K.faults sink.old) (K.faults sink.new) sink.old sink.new }
+    // Done: the input was read to its end, and what was written is the text of the command's work on
+    // the input that it is, nothing else. The other statuses come only where their causes stood.
+    ensures outcome { IfSome (command_of (map string_bytes words.now.items)) (λ c. Ends (work c) (record {
+      source = side S.left S.faults source.old source.new;
+      sink = side K.held K.faults sink.old sink.new;
+    }) result) }
     // Of a source that tells its bytes, each status says what they are.
-    ensures told { is_command (map string_bytes words.now.items) ≡ true → IfTold (S.left source.old) (Fits result) }
-    ensures complete { is_command (map string_bytes words.now.items) ≡ true → IfTold (S.left source.old)
-        (Completes result (S.faults source.old) (S.faults source.new) (K.faults sink.old) (K.faults sink.new)) }
+    ensures told { IfSome (command_of (map string_bytes words.now.items)) (λ c.
+        IfTold (side S.left S.faults source.old source.new) (Fits (work c) result)) }
+    ensures complete { IfSome (command_of (map string_bytes words.now.items)) (λ c.
+        IfTold (side S.left S.faults source.old source.new) (Completes (work c) (record {
+          source = side S.left S.faults source.old source.new;
+          sink = side K.held K.faults sink.old sink.new;
+        }) result)) }
     ensures later_read { S.faults source.old ≤ S.faults source.new }
     ensures later_write { K.faults sink.old ≤ K.faults sink.new }
 {
-    if is_replay(words) {
-        replay(alloc, source, sink)
-    } else {
-        Status::BadWords
+    match command_of(words) {
+        Some(command) => perform(alloc, command, source, sink),
+        None => Status::BadWords,
     }
 }

@@ -5,9 +5,12 @@ ghost use Rattle.std.specs.List.{AllByRecursion};
 ghost use Rattle.dd_station.specs.Run.{IsOfClient, next, answers, run};
 ghost use Rattle.dd_script.specs.Script.{IsRunnable};
 ghost use Rattle.dd_script.specs.Texts.{line, text};
-ghost use Rattle.dd_prog.specs.Outcome.{Writes, Replays, IfTold, Fits, status_of_run};
+ghost use Rattle.dd_prog.specs.Commands.{work};
+ghost use Rattle.dd_prog.specs.Exchange.{side, IfTold};
+ghost use Rattle.dd_prog.specs.Outcome.{Writes, Ends, Fits, status_of_run, status_of_input};
 
-use crate::fault::RunFault;
+use crate::command::Command;
+use crate::fault::{InputFault, RunFault};
 use crate::reading::read_script;
 use crate::status::Status;
 use dd_io::{Sink, Source, write_all};
@@ -18,7 +21,7 @@ use std::alloc::Global;
 
 /// Writes one answer as a line.
 fn write_answer<K: Sink>(alloc: Global, answer: &Answer, sink: &mut K) -> Result<(), RunFault>
-    ensures wrote { Writes result (K.held sink.old) (K.held sink.new) (K.faults sink.old) (K.faults sink.new) (line answer.now) }
+    ensures wrote { Writes (side K.held K.faults sink.old sink.new) (line answer.now) result }
     ensures later { K.faults sink.old ≤ K.faults sink.new }
 {
     let text = answer_text(alloc, answer)?;
@@ -35,7 +38,7 @@ fn play<K: Sink>(
 ) -> Result<(), RunFault>
     requires client { IsOfClient (length station.old.clients) step.now }
     requires count { station.old.steps < 2 ^ 32 - 1 }
-    ensures wrote { Writes result (K.held sink.old) (K.held sink.new) (K.faults sink.old) (K.faults sink.new) (line (next station.old step.now).0) }
+    ensures wrote { Writes (side K.held K.faults sink.old sink.new) (line (next station.old step.now).0) result }
     ensures state { OnOk result (station.new ≡ (next station.old step.now).1) }
     ensures later { K.faults sink.old ≤ K.faults sink.new }
 {
@@ -52,7 +55,7 @@ fn play_all<K: Sink>(
 ) -> Result<(), RunFault>
     requires clients { AllByRecursion (IsOfClient (length station.old.clients)) steps.now }
     requires count { station.old.steps + length steps.now < 2 ^ 32 - 1 }
-    ensures wrote { Writes result (K.held sink.old) (K.held sink.new) (K.faults sink.old) (K.faults sink.new) (text (answers station.old steps.now)) }
+    ensures wrote { Writes (side K.held K.faults sink.old sink.new) (text (answers station.old steps.now)) result }
     ensures later { K.faults sink.old ≤ K.faults sink.new }
 {
     for step in steps {
@@ -65,7 +68,7 @@ fn play_all<K: Sink>(
 #[tactic(auto, unfolding(dd_station::specs::Run::run))]
 fn run_script<K: Sink>(alloc: Global, script: Script, sink: &mut K) -> Result<(), RunFault>
     requires { IsRunnable script }
-    ensures wrote { Writes result (K.held sink.old) (K.held sink.new) (K.faults sink.old) (K.faults sink.new) (text (run script)) }
+    ensures wrote { Writes (side K.held K.faults sink.old sink.new) (text (run script)) result }
     ensures later { K.faults sink.old ≤ K.faults sink.new }
 {
     let Script {
@@ -78,7 +81,7 @@ fn run_script<K: Sink>(alloc: Global, script: Script, sink: &mut K) -> Result<()
 }
 
 /// How a run ended, as a status.
-fn status_of(ended: Result<(), RunFault>) -> Status
+fn status_of_run(ended: Result<(), RunFault>) -> Status
     ensures { result ≡ status_of_run ended }
 {
     match ended {
@@ -88,16 +91,30 @@ fn status_of(ended: Result<(), RunFault>) -> Status
     }
 }
 
+/// Why no script was read, as a status.
+fn status_of_input(fault: InputFault) -> Status
+    ensures { result ≡ status_of_input (work Command.Replay) fault }
+{
+    match fault {
+        InputFault::TooLong => Status::TooLong,
+        InputFault::BadInput => Status::BadScript,
+        InputFault::Failed => Status::ReadFault,
+        InputFault::OutOfMemory => Status::OutOfMemory,
+    }
+}
+
 /// Reads a script, runs it, and writes its answers.
 pub(crate) fn replay<S: Source, K: Sink>(alloc: Global, source: &mut S, sink: &mut K) -> Status
-    ensures outcome { Replays result (S.left source.old) (S.left source.new) (S.faults source.old) (S.faults source.new)
-        (K.held sink.old) (K.held sink.new) (K.faults sink.old) (K.faults sink.new) sink.old sink.new }
-    ensures told { IfTold (S.left source.old) (Fits result) }
+    ensures outcome { Ends (work Command.Replay) (record {
+      source = side S.left S.faults source.old source.new;
+      sink = side K.held K.faults sink.old sink.new;
+    }) result }
+    ensures told { IfTold (side S.left S.faults source.old source.new) (Fits (work Command.Replay) result) }
     ensures later_read { S.faults source.old ≤ S.faults source.new }
     ensures later_write { K.faults sink.old ≤ K.faults sink.new }
 {
     match read_script(alloc, source) {
-        Err(status) => status,
-        Ok(script) => status_of(run_script(alloc, script, sink)),
+        Err(fault) => status_of_input(fault),
+        Ok(script) => status_of_run(run_script(alloc, script, sink)),
     }
 }

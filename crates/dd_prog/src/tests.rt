@@ -2,9 +2,10 @@
 
 ghost use Rattle.std.specs.Prelude.{◌≤◌};
 
-use crate::{Status, plain};
+use crate::{Status, WordsFault, plain, report, words};
 use dd_io::{Bytes, MemSink, MemSource, Numbers, read_up_to};
 use std::alloc::Global;
+use std::io::{Error, ErrorKind};
 use std::test::Fail;
 
 const OPEN: &str = r#"{"client":1,"call":"duplicate"}"#;
@@ -20,6 +21,8 @@ const FILL: &str = r#"{"present":[{"fill":[1,1,3,2],"colour":"ff0000"}]}"#;
 const CORNER: &str = r#"{"present":[{"fill":[0,0,2,2],"colour":"ff0000"}]}"#;
 
 const NO_CHANGE: &str = r#"{"present":[]}"#;
+
+const DOWN: &str = r#"{"present":[{"scroll":[0,1,4,2],"from":[0,0]}]}"#;
 
 const OPENED: &str = r#"{"entry":1,"slot":0}"#;
 
@@ -64,7 +67,7 @@ fn lines(alloc: Global, items: &[&str]) -> Result<String, Fail> {
     Ok(text)
 }
 
-fn words(alloc: Global, items: &[&str]) -> Result<Vec<String>, Fail> {
+fn words_of(alloc: Global, items: &[&str]) -> Result<Vec<String>, Fail> {
     let mut all = Vec::new(alloc);
     for item in items {
         all.push(String::from_str(alloc, item)?)?;
@@ -87,7 +90,7 @@ fn replayed(
 ) -> Result<(Status, MemSink), Fail>
     requires { 1 ≤ piece }
 {
-    let words = words(alloc, &["replay"])?;
+    let words = words_of(alloc, &["replay"])?;
     let mut source = MemSource::new(Bytes::from_vec(bytes), piece, numbers(alloc, source_fails)?);
     let mut sink = MemSink::new(alloc, piece, numbers(alloc, sink_fails)?);
     let status = plain(alloc, &words, &mut source, &mut sink);
@@ -97,7 +100,7 @@ fn replayed(
 #[test]
 fn answers_to_the_byte(rt: HostRuntime) -> Result<(), Fail> {
     let alloc = rt.alloc();
-    let cases: [(&str, &[&str], &[&str]); 8] = [
+    let cases: [(&str, &[&str], &[&str]); 16] = [
         ("no steps", &[], &[]),
         ("a fill is seen", &SEEN, &SEEN_LINES),
         (
@@ -152,21 +155,6 @@ fn answers_to_the_byte(rt: HostRuntime) -> Result<(), Fail> {
                 NOTHING_NEW,
             ],
         ),
-    ];
-    for (name, steps, want) in cases {
-        let (status, sink) = replayed(alloc, script(alloc, steps)?, 4096, &[], &[])?;
-        assert_eq!(rt; status, Status::Done, "{name}");
-        assert_eq!(rt; sink.bytes(), lines(alloc, want)?.as_bytes(), "{name}");
-    }
-    Ok(())
-}
-
-const DOWN: &str = r#"{"present":[{"scroll":[0,1,4,2],"from":[0,0]}]}"#;
-
-#[test]
-fn moves_to_the_byte(rt: HostRuntime) -> Result<(), Fail> {
-    let alloc = rt.alloc();
-    let cases: [(&str, &[&str], &[&str]); 7] = [
         (
             "a scroll of what is clean is a move and leaves no dirt",
             &[
@@ -301,6 +289,19 @@ fn moves_to_the_byte(rt: HostRuntime) -> Result<(), Fail> {
                 r#"{"surface":["ff0000ff0000000000000000","000000000000000000000000","000000000000000000ff0000"]}"#,
             ],
         ),
+        (
+            "two fills that overlap are cut into bands of equal rows",
+            &[
+                OPEN,
+                r#"{"present":[{"fill":[0,0,1,2],"colour":"ff0000"},{"fill":[0,0,3,1],"colour":"00ff00"}]}"#,
+                ACQUIRE,
+            ],
+            &[
+                OPENED,
+                r#"{"entry":2}"#,
+                r#"{"dirty":[[0,0,3,1],[0,1,1,2]],"frame":{"accumulated":1,"coalesced":false,"meta":32,"mouse":0,"pointer":[0,0],"present":2,"protected":false,"shape":0,"visible":false},"moves":[]}"#,
+            ],
+        ),
     ];
     for (name, steps, want) in cases {
         let (status, sink) = replayed(alloc, script(alloc, steps)?, 4096, &[], &[])?;
@@ -385,19 +386,60 @@ fn sixty_four_rectangles_and_one_more(rt: HostRuntime) -> Result<(), Fail> {
     Ok(())
 }
 
+/// A program with these words, whose names' sink fails these calls: how it ended, how many bytes of
+/// its script are left, and the names' sink.
+fn reported(
+    alloc: Global,
+    words: Result<Vec<String>, WordsFault>,
+    name_fails: &[u64],
+) -> Result<(Status, usize, MemSink), Fail> {
+    let bytes = Bytes::from_vec(script(alloc, &[])?);
+    let mut source = MemSource::new(bytes, 7, numbers(alloc, &[])?);
+    let mut sink = MemSink::new(alloc, 7, numbers(alloc, &[])?);
+    let mut names = MemSink::new(alloc, 5, numbers(alloc, name_fails)?);
+    let status = report(alloc, words, &mut source, &mut sink, &mut names);
+    let left = read_up_to(alloc, &mut source, 1000)?;
+    Ok((status, left.len(), names))
+}
+
 #[test]
-fn other_words_read_nothing(rt: HostRuntime) -> Result<(), Fail> {
+fn a_program_names_its_status(rt: HostRuntime) -> Result<(), Fail> {
     let alloc = rt.alloc();
-    let cases: [&[&str]; 4] = [&[], &["play"], &["replay", "x"], &["replay "]];
-    for items in cases {
-        let bytes = Bytes::from_vec(script(alloc, &SEEN)?);
-        let mut source = MemSource::new(bytes, 7, numbers(alloc, &[])?);
-        let mut sink = MemSink::new(alloc, 7, numbers(alloc, &[])?);
-        let status = plain(alloc, &words(alloc, items)?, &mut source, &mut sink);
-        assert_eq!(rt; status, Status::BadWords, "{items:?}");
-        let left = read_up_to(alloc, &mut source, 1000)?;
-        assert_eq!(rt; left.as_slice(), script(alloc, &SEEN)?.as_slice());
-        assert_eq!(rt; sink.bytes().len(), 0);
+    // The words, the calls of the names' sink that fail, how it ends, how many bytes of the script
+    // are left, and the name.
+    let cases: [(&[&str], &[u64], Status, usize, &[u8]); 6] = [
+        (&["replay"], &[], Status::Done, 0, b""),
+        (&[], &[], Status::BadWords, 75, b"BadWords\n"),
+        (&["play"], &[], Status::BadWords, 75, b"BadWords\n"),
+        (&["replay", "x"], &[], Status::BadWords, 75, b"BadWords\n"),
+        (&["replay "], &[], Status::BadWords, 75, b"BadWords\n"),
+        (&[], &[2], Status::BadWords, 75, b"BadWo"),
+    ];
+    for (items, name_fails, want, unread, name) in cases {
+        let (status, left, names) = reported(alloc, Ok(words_of(alloc, items)?), name_fails)?;
+        assert_eq!(rt; (status, left), (want, unread), "{items:?}");
+        assert_eq!(rt; names.bytes(), name, "{items:?}");
+    }
+    let (status, left, names) = reported(alloc, Err(WordsFault::OutOfMemory), &[])?;
+    assert_eq!(rt; (status, left), (Status::OutOfMemory, 75));
+    assert_eq!(rt; names.bytes(), b"OutOfMemory\n".as_slice());
+    Ok(())
+}
+
+#[test]
+fn words_come_after_the_name(rt: HostRuntime) -> Result<(), Fail> {
+    let alloc = rt.alloc();
+    let given = words_of(alloc, &["ddup", "replay", "x"])?;
+    let got = words(alloc, Ok(given.into_iter()))?;
+    assert_eq!(rt; got.len(), 2);
+    assert_eq!(rt; got[0].as_str(), "replay");
+    let cases = [
+        (ErrorKind::InvalidData, WordsFault::NotText),
+        (ErrorKind::OutOfMemory, WordsFault::OutOfMemory),
+    ];
+    for (kind, want) in cases {
+        let got = words(alloc, Err(Error::from(kind)));
+        assert_eq!(rt; got.err(), Some(want));
     }
     Ok(())
 }
@@ -450,22 +492,4 @@ fn devices_in_pieces_and_their_faults(rt: HostRuntime) -> Result<(), Fail> {
         assert_eq!(rt; sink.bytes(), held.as_bytes(), "{piece} bytes a call");
     }
     Ok(())
-}
-
-#[test]
-fn statuses_have_numbers_and_names(rt: HostRuntime) {
-    let cases = [
-        (Status::Done, 0, "Done"),
-        (Status::OutOfMemory, 1, "OutOfMemory"),
-        (Status::BadWords, 2, "BadWords"),
-        (Status::TooLong, 3, "TooLong"),
-        (Status::BadScript, 4, "BadScript"),
-        (Status::BadRecord, 5, "BadRecord"),
-        (Status::ReadFault, 6, "ReadFault"),
-        (Status::WriteFault, 7, "WriteFault"),
-    ];
-    for (status, number, name) in cases {
-        assert_eq!(rt; status as u8, number, "{name}");
-        assert_eq!(rt; status.name(), name);
-    }
 }

@@ -1,0 +1,10 @@
+-- Interrupted reads moved nothing, and the count never fell.
+use Rattle.std.proofs.Common.{◌≤◌}
+use Rattle.std.specs.Io.KnownBytes.{Keeps}
+use Rattle.dd_io.proofs.counted.Counted.read_retrying.Given as goal
+
+abbrev pub invariant-loop : goal.invariant-loop
+invariant-loop g l = record {
+  kept : Keeps (g.R.Read.remaining l.fn.self.device) (g.R.Read.remaining l.self.device);
+  later : l.fn.self.faults ≤ l.self.faults;
+}
