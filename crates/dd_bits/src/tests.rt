@@ -1,7 +1,5 @@
 //! Cases of sets of points, which each kind of area is to answer alike.
 
-ghost use Rattle.std.specs.Prelude.{◌≡◌, IfOk};
-
 use crate::{Area, Plane, list_covers, list_has, list_inside, list_sorted, list_tells};
 use dd_geom::{Move, Point, Rect, move_inside, rect_inside};
 use std::alloc::{AllocError, Global};
@@ -155,16 +153,15 @@ static CASES: [Case; 15] = [
     },
 ];
 
-/// The area to which the rectangles of a case are added, and which its moves then carry over.
-fn area_of<A: Area>(
+/// The area of a surface of 6 by 4 to which rectangles are added, which moves then carry over, and
+/// which is then rounded to tiles, one side after the other.
+pub(crate) fn area_of<A: Area>(
     rt: &impl Abort,
     alloc: Global,
     added: &[Rect],
     moved: &[Move],
-) -> Result<A, AllocError>
-    ensures width { IfOk result (λ a. (A.points a).width ≡ WIDTH) }
-    ensures height { IfOk result (λ a. (A.points a).height ≡ HEIGHT) }
-{
+    sides: &[u32],
+) -> Result<A, AllocError> {
     let mut area = A::empty(alloc, WIDTH, HEIGHT)?;
     for r in added {
         assert!(rt; rect_inside(*r, WIDTH, HEIGHT));
@@ -174,23 +171,31 @@ fn area_of<A: Area>(
         assert!(rt; move_inside(*m, WIDTH, HEIGHT));
         area.move_over(*m)?;
     }
+    for t in sides {
+        assert!(rt; *t >= 1);
+        area.tiles(*t)?;
+    }
     Ok(area)
+}
+
+/// An area has these points, and none outside the surface.
+pub(crate) fn check_points<A: Area>(rt: &impl Abort, area: &A, points: &[&[u8; 6]; 4], name: &str) {
+    for (y, row) in (0..).zip(points) {
+        for (x, point) in (0..).zip(*row) {
+            assert!(rt; area.has(x, y) == (*point == b'#'), "{name}, at ({x}, {y})");
+        }
+    }
+    let outside = area.has(WIDTH, 0) || area.has(0, HEIGHT);
+    assert!(rt; !outside, "{name}, outside");
 }
 
 /// Each case on one kind of area.
 fn run_cases<A: Area>(rt: &impl Abort, alloc: Global) -> Result<(), AllocError> {
     for case in &CASES {
-        let name = case.name;
-        let area: A = area_of(rt, alloc, case.added, case.moved)?;
-        for y in 0..HEIGHT {
-            let row = case.points[y as usize];
-            for x in 0..WIDTH {
-                let marked = row[x as usize] == b'#';
-                assert_eq!(rt; area.has(x, y), marked, "{name}, at ({x}, {y})");
-            }
-        }
+        let area: A = area_of(rt, alloc, case.added, case.moved, &[])?;
+        check_points(rt, &area, &case.points, case.name);
         let list = area.list()?;
-        assert_eq!(rt; list.as_slice(), case.list, "{name}");
+        assert_eq!(rt; list.as_slice(), case.list, "{}", case.name);
     }
     Ok(())
 }

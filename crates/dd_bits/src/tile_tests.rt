@@ -1,16 +1,11 @@
 //! Cases of sets rounded to tiles, which each kind of area is to answer alike.
 
-ghost use Rattle.std.specs.Prelude.{◌≡◌, IfOk};
-
+use crate::tests::{area_of, check_points};
 use crate::{Area, Plane, tiles_nest};
-use dd_geom::{Rect, rect_inside};
+use dd_geom::Rect;
 use std::alloc::{AllocError, Global};
 use std::process::Abort;
 use std::test::Fail;
-
-const WIDTH: u32 = 6;
-
-const HEIGHT: u32 = 4;
 
 macro_rules! rect {
     ($left:expr, $top:expr, $right:expr, $bottom:expr) => {
@@ -125,40 +120,11 @@ static CASES: [Case; 15] = [
     },
 ];
 
-/// The area to which the rectangles of a case are added, and which is then rounded.
-fn area_of<A: Area>(
-    rt: &impl Abort,
-    alloc: Global,
-    added: &[Rect],
-    sides: &[u32],
-) -> Result<A, AllocError>
-    ensures width { IfOk result (λ a. (A.points a).width ≡ WIDTH) }
-    ensures height { IfOk result (λ a. (A.points a).height ≡ HEIGHT) }
-{
-    let mut area = A::empty(alloc, WIDTH, HEIGHT)?;
-    for r in added {
-        assert!(rt; rect_inside(*r, WIDTH, HEIGHT));
-        area.add(*r)?;
-    }
-    for t in sides {
-        assert!(rt; *t >= 1);
-        area.tiles(*t)?;
-    }
-    Ok(area)
-}
-
 /// Each case on one kind of area.
 fn run_cases<A: Area>(rt: &impl Abort, alloc: Global) -> Result<(), AllocError> {
     for case in &CASES {
-        let name = case.name;
-        let area: A = area_of(rt, alloc, case.added, case.sides)?;
-        for y in 0..HEIGHT {
-            let row = case.points[y as usize];
-            for x in 0..WIDTH {
-                let marked = row[x as usize] == b'#';
-                assert_eq!(rt; area.has(x, y), marked, "{name}, at ({x}, {y})");
-            }
-        }
+        let area: A = area_of(rt, alloc, case.added, &[], case.sides)?;
+        check_points(rt, &area, &case.points, case.name);
     }
     Ok(())
 }

@@ -10,7 +10,7 @@ use Rattle.dd_geom.specs.Grid.{Grid, grid, value_at}
 use Rattle.dd_geom.proofs.GridLemmas.{length-cells, get_or-cells, value_at-grid, value_at-right, value_at-below}
 use Rattle.dd_grid.specs.declared.cell.TheConstants.{COLOURS}
 use Rattle.dd_grid.specs.Cell.{Cell, plain, covered_cell, seen_cell}
-use Rattle.dd_grid.specs.Drawing.{IsPicture, IsSurface, ShowsAll, SeenIsSurface, black, filled, blitted, covered, image, image_at, seen, cell_at, colour_at, moved_cells, moved}
+use Rattle.dd_grid.specs.Drawing.{IsPicture, IsSurface, ShowsAll, SeenIsSurface, black, filled, blitted, covered, image, image_at, cell_at, colour_at, moved_cells, moved}
 
 module _ {A : Type 0} where
   -- what holds of both sides of a choice holds of the choice

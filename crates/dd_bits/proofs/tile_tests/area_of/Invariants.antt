@@ -1,8 +1,0 @@
-use Rattle.std.proofs.Common.{◌≡◌}
-use Rattle.dd_bits.proofs.tile_tests.area_of.Given as goal
-
-abbrev pub invariant-loop-r : goal.invariant-loop-r
-invariant-loop-r g l = ((g.A.Area.points l.area).width ≡ 6) × ((g.A.Area.points l.area).height ≡ 4)
-
-abbrev pub invariant-loop-t : goal.invariant-loop-t
-invariant-loop-t g l = ((g.A.Area.points l.area).width ≡ 6) × ((g.A.Area.points l.area).height ≡ 4)
