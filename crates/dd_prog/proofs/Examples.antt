@@ -9,13 +9,12 @@ use Rattle.dd_bits.specs.CanonicalList.{run_end, same_rows, canonical_list}
 use Rattle.dd_bits.specs.Tiles.{tiles}
 use Rattle.dd_coal.specs.Power.{least_power_from, power}
 use Rattle.dd_acc.specs.Effects.{dirtied, dirt, is_coalesced, moves}
-use Rattle.dd_log.specs.Desk.{picture, presents}
-use Rattle.dd_dup.specs.Reply.{dirt_of, news_of}
+use Rattle.dd_log.specs.Picture.{picture, presents}
+use Rattle.dd_dup.specs.News.{dirt_of, news_of}
 use Rattle.dd_station.specs.Run.{next, run}
 use Rattle.dd_script.specs.Script.{script_of}
-use Rattle.dd_script.specs.Answers.{point_tree, rect_tree, move_tree, info_tree, frame_tree, row_digits, surface_tree, refusal_tree, log_refusal_tree, open_refusal_tree, dup_refusal_tree, answer_tree}
 use Rattle.dd_script.specs.Texts.{line, text}
-use Rattle.dd_script.proofs.OnLiterals.{script_on_literals}
+use Rattle.dd_script.proofs.OnLiterals.{script_on_literals, answers_on_literals}
 use Rattle.dd_prog.specs.declared.reading.TheConstants.{MAX_SCRIPT_BYTES}
 
 -- the texts with commas between them
@@ -144,10 +143,8 @@ MovesInOrder = Gives
     ∷ shown (codes "ff0000ff0000000000000000") black (codes "000000000000000000ff0000") ∷ [])
 
 runs : OneFill × InBands × DirtIsCarried × SeventeenScrolls × AnImage × MovesInOrder
-unfolding script_on_literals next run text line digits encode_with picture presents dirtied dirt is_coalesced moves
-    canonical_list same_rows run_end tiles power least_power_from dirt_of news_of point_tree rect_tree move_tree
-    info_tree frame_tree row_digits surface_tree refusal_tree log_refusal_tree open_refusal_tree dup_refusal_tree
-    answer_tree
+unfolding script_on_literals next run picture presents dirtied dirt is_coalesced moves
+    canonical_list same_rows run_end tiles power least_power_from dirt_of news_of answers_on_literals
 runs = (refl, refl, refl, refl, refl, refl)
 
 -- the longest script, in bytes

@@ -1,9 +1,6 @@
 -- The trees and the lines of some answers, computed.
 use Rattle.std.proofs.Common.{◌≡◌, pos, negsuc, false, [], ◌∷◌, codes, Some, None, refl}
-use Rattle.std.specs.Fmt.{digits}
 use Rattle.serde_json.specs.Data.{boolean, number, unsigned, negative, array, object, item, no_items, member, no_members}
-use Rattle.serde_json.proofs.OnLiterals.{serde_json_on_literals}
-use Rattle.hex.specs.Hex.{encode_with}
 use Rattle.dd_geom.specs.declared.rect.Rect.{Rect}
 use Rattle.dd_geom.specs.declared.rect.Move.{Move}
 use Rattle.dd_log.specs.declared.answers.FrameInfo.{FrameInfo}
@@ -11,8 +8,9 @@ use Rattle.dd_log.specs.declared.answers.Answer.TheVariants as answer
 use Rattle.dd_log.specs.declared.answers.LogRefusal.TheVariants as drawing
 use Rattle.dd_log.specs.declared.answers.OpenRefusal.TheVariants as opening
 use Rattle.dd_log.specs.declared.answers.DupRefusal.TheVariants as call
-use Rattle.dd_script.specs.Answers.{point_tree, rect_tree, move_tree, info_tree, frame_tree, row_digits, surface_tree, refusal_tree, answer_tree}
+use Rattle.dd_script.specs.Answers.{move_tree, answer_tree}
 use Rattle.dd_script.specs.Texts.{line, text}
+use Rattle.dd_script.proofs.OnLiterals.{answers_on_literals}
 
 -- the first present, whose rectangle is two points wide and one high
 abbrev told : FrameInfo
@@ -55,38 +53,38 @@ frame_of_a_present : answer_tree (answer.Frame told [] (filled ∷ []))
     (member (codes "shape") (number (unsigned 0))
     (member (codes "visible") (boolean false) no_members))))))))))
     (member (codes "moves") (array no_items) no_members)))
-unfolding answer_tree frame_tree info_tree point_tree rect_tree
+unfolding answers_on_literals
 frame_of_a_present = refl
 
 move_from_outside : move_tree scrolled
     ≡ array
     (item (number (negative (negsuc 0))) (item (number (unsigned 3))
     (item (number (unsigned 2)) (item (number (unsigned 0)) (item (number (unsigned 4)) (item (number (unsigned 1)) no_items))))))
-unfolding move_tree
+unfolding answers_on_literals
 move_from_outside = refl
 
 -- a frame with a move and a dirty rectangle
 line_of_a_frame : line (answer.Frame (record told { meta_size = 40 }) (moved ∷ []) (filled ∷ [])) ≡ codes "{\"dirty\":[[1,1,3,2]],\"frame\":{\"accumulated\":1,\"coalesced\":false,\"meta\":40,\"mouse\":0,\"pointer\":[0,0],\"present\":2,\"protected\":false,\"shape\":0,\"visible\":false},\"moves\":[[0,0,2,0,4,1]]}\n"
-unfolding line answer_tree frame_tree info_tree point_tree rect_tree move_tree digits serde_json_on_literals
+unfolding answers_on_literals
 line_of_a_frame = refl
 
 -- answers, and the text of each of them
 lines_of_accepted_calls : text (answer.Entered 2 ∷ answer.Opened 1 3 ∷ answer.Released ∷ answer.Surface None ∷ answer.Surface (Some ((0xff8001 ∷ 255 ∷ []) ∷ [])) ∷ [])
     ≡ codes "{\"entry\":2}\n{\"entry\":1,\"slot\":3}\n{\"released\":true}\n{\"surface\":null}\n{\"surface\":[\"ff80010000ff\"]}\n"
-unfolding text line answer_tree surface_tree row_digits encode_with digits serde_json_on_literals
+unfolding answers_on_literals
 lines_of_accepted_calls = refl
 
 lines_of_refused_drawings : text (answer.NotDrawn drawing.Full ∷ answer.NotDrawn (drawing.BadRect 5) ∷ [])
     ≡ codes "{\"refused\":\"Full\"}\n{\"code\":\"80070057\",\"op\":5,\"refused\":\"BadRect\"}\n"
-unfolding text line answer_tree refusal_tree digits serde_json_on_literals
+unfolding answers_on_literals
 lines_of_refused_drawings = refl
 
 lines_of_refused_openings : text (answer.NotOpened opening.AlreadyDuplicating ∷ answer.NotOpened opening.NotAvailable ∷ answer.NotOpened opening.Full ∷ [])
     ≡ codes "{\"code\":\"80070057\",\"refused\":\"AlreadyDuplicating\"}\n{\"code\":\"887a0022\",\"refused\":\"NotAvailable\"}\n{\"refused\":\"Full\"}\n"
-unfolding text line answer_tree refusal_tree serde_json_on_literals
+unfolding answers_on_literals
 lines_of_refused_openings = refl
 
 lines_of_refused_calls : text (answer.Refused call.InvalidCall None ∷ answer.Refused call.InvalidCall (Some (238 ∷ 1 ∷ [])) ∷ answer.Refused call.WaitTimeout None ∷ answer.Refused call.OutOfMemory None ∷ answer.NoDuplicator ∷ [])
     ≡ codes "{\"code\":\"887a0001\",\"refused\":\"InvalidCall\"}\n{\"buffer\":\"ee01\",\"code\":\"887a0001\",\"refused\":\"InvalidCall\"}\n{\"code\":\"887a0027\",\"refused\":\"WaitTimeout\"}\n{\"refused\":\"OutOfMemory\"}\n{\"refused\":\"NoDuplicator\"}\n"
-unfolding text line answer_tree refusal_tree encode_with serde_json_on_literals
+unfolding answers_on_literals
 lines_of_refused_calls = refl

@@ -123,7 +123,7 @@ unfolding script_on_literals
 greatest_mode = refl
 
 no_modes : are_refused modes_of
-    (codes "[[8192,2049,4]]" ∷ codes "[[16385,1,0]]" ∷ codes "[[1,1,5]]" ∷ codes "[[0,1,1]]" ∷ codes "[[1,1]]" ∷ codes "[]" ∷ []) ≡ true
+    (codes "[[8192,2049,4]]" ∷ codes "[[8193,1,0]]" ∷ codes "[[1,1,5]]" ∷ codes "[[0,1,1]]" ∷ codes "[[1,1]]" ∷ codes "[]" ∷ []) ≡ true
 unfolding script_on_literals
 no_modes = refl
 

@@ -1,9 +1,6 @@
 -- The limits as numbers, and the text of some trees that scripts have of their own.
 use Rattle.std.proofs.Common.{◌≡◌, ◌^◌, [], ◌∷◌, ℕ, true, false, codes, refl, pos, negsuc, map, replicate}
-use Rattle.std.specs.Fmt.{digits}
-use Rattle.hex.specs.Hex.{encode_with}
 use Rattle.serde_json.specs.Written.{compact_text}
-use Rattle.serde_json.proofs.OnLiterals.{serde_json_on_literals}
 use Rattle.dd_modes.specs.declared.modes.Rotation.TheVariants.{Identity}
 use Rattle.dd_modes.specs.declared.modes.TheConstants.{MAX_MODES}
 use Rattle.dd_ops.specs.declared.operations.Op.TheVariants.{Fill, Blit, Scroll}
@@ -16,8 +13,8 @@ use Rattle.dd_station.specs.declared.steps.Step.TheVariants.{Draw, Call}
 use Rattle.dd_station.specs.declared.steps.Script.{Script}
 use Rattle.dd_station.specs.declared.steps.TheConstants.{MAX_CLIENTS}
 use Rattle.dd_log.specs.declared.events.TheConstants.{MAX_PRIVILEGED}
-use Rattle.dd_script.specs.Answers.{point_tree, rect_tree, row_digits}
 use Rattle.dd_script.specs.Script.{keeps_limits}
+use Rattle.dd_script.proofs.OnLiterals.{answers_on_literals}
 use Rattle.dd_script.specs.Spelling.{op_tree, draw_tree, step_tree, mode_tree, spelling}
 
 -- ---- limits
@@ -83,5 +80,5 @@ each_kind =
 
 text_of_each_kind : compact_text (spelling each_kind)
     ≡ codes "{\"capacity\":100,\"clients\":[1,4294967295],\"modes\":[[4,3,1]],\"privileged\":[7],\"steps\":[{\"call\":\"duplicate\",\"client\":1},{\"present\":[{\"colour\":\"ff8001\",\"fill\":[1,2,3,4]},{\"blit\":[-5,7,9,8],\"colours\":\"0000ff010203\"},{\"from\":[5,6],\"scroll\":[1,0,2,9]}]},{\"call\":\"acquire\",\"client\":2},{\"call\":\"release\",\"client\":1},{\"call\":\"surface\",\"client\":1}]}"
-unfolding spelling mode_tree step_tree draw_tree op_tree rect_tree point_tree row_digits encode_with digits serde_json_on_literals
+unfolding answers_on_literals spelling mode_tree step_tree draw_tree op_tree
 text_of_each_kind = refl

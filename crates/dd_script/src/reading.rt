@@ -100,5 +100,5 @@ pub fn one_tree()
 pub fn reading_undoes_spelling()
     ensures undone { (d : Data) (s : scripts.Script) → script_of d ≡ Some s → IsReadBack s }
     ensures readable { (d : Data) (s : scripts.Script) → script_of d ≡ Some s → IsTrue (is_readable s) }
-    ensures each { (s : scripts.Script) → IsTrue (is_readable s) → IsReadBack s }
+    ensures own_tree { (s : scripts.Script) → IsTrue (is_readable s) → IsReadBack s }
 {}
