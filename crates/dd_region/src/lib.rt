@@ -1,0 +1,4 @@
+//! Sets of points of a surface as bands of equal rows.
+#![tactic(auto)]
+
+mod run;
