@@ -22,7 +22,7 @@ spans_both :
     → (nat_le a x && nat_lt x m) ≡ ((nat_le a x && nat_lt x c) || (nat_le b x && nat_lt x d))
 spans_both a b c d m x p q r e = grind (arith, nat_tests)
 
-or_assoc : (a b c : Bool) → (a || (b || c)) ≡ ((a || b) || c)
+pub or_assoc : (a b c : Bool) → (a || (b || c)) ≡ ((a || b) || c)
 or_assoc true b c = refl
 or_assoc false b c = refl
 

@@ -1,6 +1,7 @@
 //! Runs of columns, and the rows that they make.
 
-ghost use Rattle.std.specs.Prelude.{◌≡◌, ℕ, ◌<◌, ◌≤◌, ◌+◌, ◌-◌, ◌||◌, ◌&&◌, nat_le, nat_lt, length, OnOk};
+ghost use Rattle.std.specs.Prelude.{◌≡◌, ℕ, ◌<◌, ◌≤◌, ◌+◌, ◌-◌, ◌^◌, ◌||◌, OnOk};
+ghost use Rattle.dd_region.specs.Runs.{in_run, in_runs, IsRow, BeginBy, in_window, landing};
 
 use std::alloc::AllocError;
 
@@ -11,7 +12,13 @@ pub struct Run {
     pub right: usize,
 }
 
-ghost use Rattle.dd_region.specs.Runs.{in_run, in_runs, IsRow, BeginBy};
+/// The columns from `left` to `right - 1` of a row, moved so that the first of them comes to `to`.
+#[derive(Clone, Copy, Debug)]
+pub struct Window {
+    pub left: usize,
+    pub right: usize,
+    pub to: usize,
+}
 
 /// Adds a run at the right end of a row: one that begins no further left than any run of it. Where
 /// it touches the last one, or overlaps it, the two are joined.
@@ -33,5 +40,46 @@ pub fn push_run(row: &mut Vec<Run>, run: Run) -> Result<(), AllocError>
         }
     }
     row.push(run)?;
+    Ok(())
+}
+
+/// Adds what a window shows of a run to a row, which may be nothing.
+fn push_part(row: &mut Vec<Run>, run: Run, window: Window) -> Result<(), AllocError>
+    requires order { window.left ≤ window.right }
+    requires fits { window.to + (window.right - window.left) < 2 ^ 64 }
+    requires row { IsRow row.old.items }
+    requires begin { BeginBy row.old.items (landing window run.left) }
+    ensures columns { OnOk result ((x : ℕ) → in_runs row.new.items x
+        ≡ (in_runs row.old.items x || in_window window (in_run run) x)) }
+    ensures row { OnOk result (IsRow row.new.items) }
+    ensures begin { OnOk result (BeginBy row.new.items (landing window run.left)) }
+{
+    let left = run.left.max(window.left);
+    let right = run.right.min(window.right);
+    if left >= right {
+        return Ok(());
+    }
+    let part = Run {
+        left: left - window.left + window.to,
+        right: right - window.left + window.to,
+    };
+    push_run(row, part)
+}
+
+/// Adds what a window shows of some runs at the right end of a row.
+pub fn copy_runs(row: &mut Vec<Run>, runs: &[Run], window: Window) -> Result<(), AllocError>
+    requires order { window.left ≤ window.right }
+    requires fits { window.to + (window.right - window.left) < 2 ^ 64 }
+    requires runs { IsRow runs.now }
+    requires row { IsRow row.old.items }
+    requires begin { BeginBy row.old.items window.to }
+    ensures columns { OnOk result ((x : ℕ) → in_runs row.new.items x
+        ≡ (in_runs row.old.items x || in_window window (in_runs runs.now) x)) }
+    ensures row { OnOk result (IsRow row.new.items) }
+    ensures begin { OnOk result (BeginBy row.new.items (window.to + (window.right - window.left))) }
+{
+    for run in runs {
+        push_part(row, *run, window)?;
+    }
     Ok(())
 }
