@@ -56,8 +56,12 @@ IsRow-push rs r row some apart = record {
       elim (cases_lt (k + 1) (length rs)) [
         | inl a ↦
             let n : length rs - 1 + 1 ≡ length rs = omega arith in
-            omega (arith, row.apart k (length rs - 1) d (omega arith) (omega arith), row.some (length rs - 1) d (omega arith),
-            apart (length rs - 1) d n)
+            omega (
+              arith,
+              row.apart k (length rs - 1) d (omega arith) (omega arith),
+              row.some (length rs - 1) d (omega arith),
+              apart (length rs - 1) d n,
+            )
         | inr a ↦ apart k d (omega arith)
       ]);
 }

@@ -1,4 +1,5 @@
 //! Sets of points of a surface as bands of equal rows.
 #![tactic(auto)]
 
+mod rows;
 mod run;
