@@ -1,10 +1,10 @@
 -- The rows of a set as bands of equal rows.
-use Rattle.std.specs.Prelude.{◌≡◌, ℕ, ◌≤◌, ◌<◌, max, List, [], ◌∷◌, length, nat_lt, if◌then◌else◌, All}
+use Rattle.std.specs.Prelude.{◌≡◌, ℕ, ◌≤◌, ◌<◌, max, List, [], ◌∷◌, length, Bool, false, nat_lt, if◌then◌else◌, All}
 use Rattle.std.specs.List.{AllWithin, slice_range}
 use Rattle.dd_region.specs.declared.run.Run.{Run}
 use Rattle.dd_region.specs.declared.rows.Band.{Band}
 use Rattle.dd_region.specs.declared.rows.Rows.{Rows}
-use Rattle.dd_region.specs.Runs.{IsRow}
+use Rattle.dd_region.specs.Runs.{in_runs, IsRow}
 
 -- the runs of a band
 abbrev pub band_runs : List Run → Band → List Run
@@ -45,3 +45,15 @@ pub record HasBandMore (old : Rows) (row : List Run) (bottom : ℕ) (new : Rows)
   pub deep : depth new ≡ bottom
   pub above : (y : ℕ) → y < depth old → row_at new y ≡ row_at old y
   pub last : (y : ℕ) → depth old ≤ y → y < bottom → row_at new y ≡ row
+
+-- the points of rows
+abbrev pub has_point : Rows → ℕ → ℕ → Bool
+has_point s x y = in_runs (row_at s y) x
+
+-- no row has a column at or past w
+abbrev pub AreWithin : Rows → ℕ → Type 0
+AreWithin s w = (x y : ℕ) → y < depth s → w ≤ x → has_point s x y ≡ false
+
+-- the points of the rows that are there are those of a function
+abbrev pub HavePoints : Rows → (ℕ → ℕ → Bool) → Type 0
+HavePoints s f = (x y : ℕ) → y < depth s → has_point s x y ≡ f x y

@@ -3,3 +3,4 @@
 
 mod rows;
 mod run;
+mod sweep;

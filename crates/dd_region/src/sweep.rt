@@ -1,0 +1,125 @@
+//! Rows written anew: as they were outside a rectangle, and otherwise inside it.
+
+use crate::rows::Rows;
+use crate::run::{Run, Window, copy_runs, push_run};
+use dd_geom::{MAX_SIDE, Sides};
+use std::alloc::AllocError;
+
+/// What a set is to have between the sides of a rectangle.
+#[derive(Clone, Copy, Debug)]
+pub enum Inside {
+    /// No point.
+    Nothing,
+    /// Each point.
+    Whole,
+    /// What it had from this column and this row on.
+    Source { column: usize, row: usize },
+}
+
+/// A rectangle's sides, and what comes between them.
+#[derive(Clone, Copy, Debug)]
+pub struct Patch {
+    pub sides: Sides,
+    pub inside: Inside,
+}
+
+/// How far a row that was written serves: for the rows down to `bottom - 1`. The source of the rows
+/// below it lies in no band before `band`.
+#[derive(Clone, Copy, Debug)]
+struct Step {
+    bottom: usize,
+    band: usize,
+}
+
+ghost use Rattle.std.specs.Prelude.{◌≡◌, ℕ, ◌+◌, ◌-◌, ◌^◌, ◌<◌, ◌≤◌, ◌||◌, ◌&&◌, nat_le, nat_lt, false, OnOk, IfOk, if◌then◌else◌};
+ghost use Rattle.dd_geom.specs.Rect.{AreInside};
+ghost use Rattle.dd_region.specs.Runs.{in_runs, IsRow, BeginBy};
+ghost use Rattle.dd_region.specs.Rows.{row_at, depth, AreRows, ArePassed, has_point, AreWithin, HavePoints};
+ghost use Rattle.dd_region.specs.Sweep.{inside_has, with_patch, IsPatch, IsSourcePassed};
+
+/// Adds what row `y` of the rectangle gets from the source that begins at `column` and `source`.
+fn push_source(
+    row: &mut Vec<Run>,
+    old: &Rows,
+    sides: Sides,
+    column: usize,
+    source: usize,
+    y: usize,
+    from: usize,
+) -> Result<Step, AllocError>
+    requires rows { AreRows old.now }
+    requires row { IsRow row.old.items }
+    requires begin { BeginBy row.old.items sides.left }
+    requires sides { sides.left ≤ sides.right }
+    requires top { sides.top ≤ y }
+    requires bottom { y < sides.bottom }
+    requires across { column + (sides.right - sides.left) < 2 ^ 64 }
+    requires down { source + (sides.bottom - sides.top) < 2 ^ 64 }
+    requires source { source + (sides.bottom - sides.top) ≤ depth old.now }
+    requires passed { ArePassed old.now from (y + source - sides.top) }
+    ensures columns { IfOk result (λ step. (x z : ℕ) → y ≤ z → z < step.bottom → in_runs row.new.items x
+        ≡ (in_runs row.old.items x || (nat_le sides.left x && nat_lt x sides.right
+        && has_point old.now (x + column - sides.left) (z + source - sides.top)))) }
+    ensures row { OnOk result (IsRow row.new.items) }
+    ensures begin { OnOk result (BeginBy row.new.items sides.right) }
+    ensures below { IfOk result (λ step. y < step.bottom) }
+    ensures within { IfOk result (λ step. step.bottom ≤ sides.bottom) }
+    ensures passed { IfOk result (λ step. ArePassed old.now step.band (y + source - sides.top)) }
+{
+    let line = y - sides.top + source;
+    let at = old.at(line, from);
+    let window = Window {
+        left: column,
+        right: column + (sides.right - sides.left),
+        to: sides.left,
+    };
+    copy_runs(row, at.runs, window)?;
+    Ok(Step {
+        bottom: y + (at.bottom - line).min(sides.bottom - y),
+        band: at.band,
+    })
+}
+
+/// Adds what row `y` of a patch's rectangle gets.
+fn push_inside(
+    row: &mut Vec<Run>,
+    old: &Rows,
+    patch: Patch,
+    y: usize,
+    from: usize,
+) -> Result<Step, AllocError>
+    requires rows { AreRows old.now }
+    requires row { IsRow row.old.items }
+    requires begin { BeginBy row.old.items patch.sides.left }
+    requires deep { depth old.now ≤ MAX_SIDE }
+    requires patch { IsPatch patch MAX_SIDE (depth old.now) }
+    requires top { patch.sides.top ≤ y }
+    requires bottom { y < patch.sides.bottom }
+    requires passed { IsSourcePassed patch.inside patch.sides old.now from y }
+    ensures columns { IfOk result (λ step. (x z : ℕ) → y ≤ z → z < step.bottom → in_runs row.new.items x
+        ≡ (in_runs row.old.items x || (nat_le patch.sides.left x && nat_lt x patch.sides.right
+        && inside_has patch.inside patch.sides (has_point old.now) x z))) }
+    ensures row { OnOk result (IsRow row.new.items) }
+    ensures begin { OnOk result (BeginBy row.new.items patch.sides.right) }
+    ensures below { IfOk result (λ step. y < step.bottom) }
+    ensures within { IfOk result (λ step. step.bottom ≤ patch.sides.bottom) }
+    ensures passed { IfOk result (λ step. IsSourcePassed patch.inside patch.sides old.now step.band y) }
+{
+    let sides = patch.sides;
+    let all = Step {
+        bottom: sides.bottom,
+        band: from,
+    };
+    match patch.inside {
+        Inside::Nothing => Ok(all),
+        Inside::Whole => {
+            let run = Run {
+                left: sides.left,
+                right: sides.right,
+            };
+            push_run(row, run)?;
+            Ok(all)
+        }
+        Inside::Source { column, row: source } => push_source(row, old, sides, column, source, y, from),
+    }
+}
