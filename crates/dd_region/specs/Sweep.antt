@@ -6,7 +6,7 @@ use Rattle.dd_region.specs.declared.sweep.Inside.{Inside}
 use Rattle.dd_region.specs.declared.sweep.Inside.TheVariants.{Nothing, Whole, Source}
 use Rattle.dd_region.specs.declared.sweep.Patch.{Patch}
 use Rattle.dd_region.specs.declared.rows.Rows.{Rows}
-use Rattle.dd_region.specs.Rows.{ArePassed}
+use Rattle.dd_region.specs.Rows.{row_at, depth, AreRows, ArePassed}
 
 -- whether a point between the sides is in the new set
 abbrev pub inside_has : Inside → Sides → (ℕ → ℕ → Bool) → ℕ → ℕ → Bool
@@ -35,3 +35,10 @@ abbrev pub IsSourcePassed : Inside → Sides → Rows → ℕ → ℕ → Type 0
 IsSourcePassed Nothing s old n y = ⊤
 IsSourcePassed Whole s old n y = ⊤
 IsSourcePassed (Source column row) s old n y = ArePassed old n (y + row - s.top)
+
+-- rows that are as before, and then as those of other rows, down to row y - 1
+pub record HasRowsOf (other before : Rows) (y : ℕ) (now : Rows) : Type 0 where
+  pub rows : AreRows now
+  pub deep : depth now ≡ y
+  pub above : (z : ℕ) → z < depth before → row_at now z ≡ row_at before z
+  pub added : (z : ℕ) → depth before ≤ z → z < y → row_at now z ≡ row_at other z

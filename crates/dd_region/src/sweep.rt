@@ -35,7 +35,7 @@ ghost use Rattle.std.specs.Prelude.{◌≡◌, ℕ, ◌+◌, ◌-◌, ◌^◌, �
 ghost use Rattle.dd_geom.specs.Rect.{AreInside};
 ghost use Rattle.dd_region.specs.Runs.{in_runs, IsRow, BeginBy};
 ghost use Rattle.dd_region.specs.Rows.{row_at, depth, AreRows, ArePassed, has_point, AreWithin, HavePoints};
-ghost use Rattle.dd_region.specs.Sweep.{inside_has, with_patch, IsPatch, IsSourcePassed};
+ghost use Rattle.dd_region.specs.Sweep.{inside_has, with_patch, IsPatch, IsSourcePassed, HasRowsOf};
 
 /// Adds what row `y` of the rectangle gets from the source that begins at `column` and `source`.
 fn push_source(
@@ -122,4 +122,70 @@ fn push_inside(
         }
         Inside::Source { column, row: source } => push_source(row, old, sides, column, source, y, from),
     }
+}
+
+/// Writes row `y` of a patch's rectangle anew, which had these runs.
+fn write_row(
+    row: &mut Vec<Run>,
+    old: &Rows,
+    runs: &[Run],
+    width: usize,
+    patch: Patch,
+    y: usize,
+    from: usize,
+) -> Result<Step, AllocError>
+    requires rows { AreRows old.now }
+    requires runs { IsRow runs.now }
+    requires within { (x : ℕ) → width ≤ x → in_runs runs.now x ≡ false }
+    requires deep { depth old.now ≤ MAX_SIDE }
+    requires wide { width ≤ MAX_SIDE }
+    requires patch { IsPatch patch width (depth old.now) }
+    requires top { patch.sides.top ≤ y }
+    requires bottom { y < patch.sides.bottom }
+    requires passed { IsSourcePassed patch.inside patch.sides old.now from y }
+    ensures columns { IfOk result (λ step. (x z : ℕ) → y ≤ z → z < step.bottom → in_runs row.new.items x
+        ≡ (if nat_le patch.sides.left x && nat_lt x patch.sides.right
+        then inside_has patch.inside patch.sides (has_point old.now) x z else in_runs runs.now x)) }
+    ensures row { OnOk result (IsRow row.new.items) }
+    ensures below { IfOk result (λ step. y < step.bottom) }
+    ensures within { IfOk result (λ step. step.bottom ≤ patch.sides.bottom) }
+    ensures passed { IfOk result (λ step. IsSourcePassed patch.inside patch.sides old.now step.band y) }
+{
+    let sides = patch.sides;
+    row.clear();
+    let before = Window {
+        left: 0,
+        right: sides.left,
+        to: 0,
+    };
+    copy_runs(row, runs, before)?;
+    let step = push_inside(row, old, patch, y, from)?;
+    let after = Window {
+        left: sides.right,
+        right: width,
+        to: sides.right,
+    };
+    copy_runs(row, runs, after)?;
+    Ok(step)
+}
+
+/// Adds the rows from `from` to `to - 1` as they were.
+fn copy_rows(new: &mut Rows, old: &Rows, from: usize, to: usize) -> Result<(), AllocError>
+    requires rows { AreRows old.now }
+    requires new { AreRows new.old }
+    requires order { from ≤ to }
+    requires deep { to ≤ depth old.now }
+    requires start { depth new.old ≡ from }
+    ensures { OnOk result (HasRowsOf old.now new.old to new.new) }
+{
+    let mut y = from;
+    let mut band = 0;
+    while y < to {
+        let row = old.at(y, band);
+        let bottom = row.bottom.min(to);
+        new.close(row.runs, bottom)?;
+        band = row.band;
+        y = bottom;
+    }
+    Ok(())
 }
