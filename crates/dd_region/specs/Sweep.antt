@@ -6,7 +6,7 @@ use Rattle.dd_region.specs.declared.sweep.Inside.{Inside}
 use Rattle.dd_region.specs.declared.sweep.Inside.TheVariants.{Nothing, Whole, Source}
 use Rattle.dd_region.specs.declared.sweep.Patch.{Patch}
 use Rattle.dd_region.specs.declared.rows.Rows.{Rows}
-use Rattle.dd_region.specs.Rows.{row_at, depth, AreRows, ArePassed}
+use Rattle.dd_region.specs.Rows.{row_at, depth, AreRows, ArePassed, has_point, HavePoints}
 
 -- whether a point between the sides is in the new set
 abbrev pub inside_has : Inside → Sides → (ℕ → ℕ → Bool) → ℕ → ℕ → Bool
@@ -42,3 +42,9 @@ pub record HasRowsOf (other before : Rows) (y : ℕ) (now : Rows) : Type 0 where
   pub deep : depth now ≡ y
   pub above : (z : ℕ) → z < depth before → row_at now z ≡ row_at before z
   pub added : (z : ℕ) → depth before ≤ z → z < y → row_at now z ≡ row_at other z
+
+-- the rows down to row y - 1 of a set with a patch
+pub record HasPatch (p : Patch) (old : Rows) (y : ℕ) (now : Rows) : Type 0 where
+  pub rows : AreRows now
+  pub deep : depth now ≡ y
+  pub points : HavePoints now (with_patch p (has_point old))

@@ -35,7 +35,7 @@ ghost use Rattle.std.specs.Prelude.{◌≡◌, ℕ, ◌+◌, ◌-◌, ◌^◌, �
 ghost use Rattle.dd_geom.specs.Rect.{AreInside};
 ghost use Rattle.dd_region.specs.Runs.{in_runs, IsRow, BeginBy};
 ghost use Rattle.dd_region.specs.Rows.{row_at, depth, AreRows, ArePassed, has_point, AreWithin, HavePoints};
-ghost use Rattle.dd_region.specs.Sweep.{inside_has, with_patch, IsPatch, IsSourcePassed, HasRowsOf};
+ghost use Rattle.dd_region.specs.Sweep.{inside_has, with_patch, IsPatch, IsSourcePassed, HasRowsOf, HasPatch};
 
 /// Adds what row `y` of the rectangle gets from the source that begins at `column` and `source`.
 fn push_source(
@@ -188,4 +188,59 @@ fn copy_rows(new: &mut Rows, old: &Rows, from: usize, to: usize) -> Result<(), A
         y = bottom;
     }
     Ok(())
+}
+
+/// Writes the rows of a patch's rectangle anew.
+fn write_rows(
+    new: &mut Rows,
+    row: &mut Vec<Run>,
+    old: &Rows,
+    width: usize,
+    patch: Patch,
+) -> Result<(), AllocError>
+    requires rows { AreRows old.now }
+    requires within { AreWithin old.now width }
+    requires deep { depth old.now ≤ MAX_SIDE }
+    requires wide { width ≤ MAX_SIDE }
+    requires patch { IsPatch patch width (depth old.now) }
+    requires before { HasPatch patch old.now patch.sides.top new.old }
+    ensures { OnOk result (HasPatch patch old.now patch.sides.bottom new.new) }
+{
+    let mut y = patch.sides.top;
+    let mut band = 0;
+    let mut source = 0;
+    while y < patch.sides.bottom {
+        let own = old.at(y, band);
+        let step = write_row(row, old, own.runs, width, patch, y, source)?;
+        let bottom = own.bottom.min(step.bottom);
+        new.close(row, bottom)?;
+        band = own.band;
+        source = step.band;
+        y = bottom;
+    }
+    Ok(())
+}
+
+/// Writes the set with a patch to `new`, and takes the memory that `new` and `row` have first. The
+/// set has `width` columns and `height` rows.
+pub fn sweep(
+    new: &mut Rows,
+    row: &mut Vec<Run>,
+    old: &Rows,
+    width: usize,
+    height: usize,
+    patch: Patch,
+) -> Result<(), AllocError>
+    requires rows { AreRows old.now }
+    requires within { AreWithin old.now width }
+    requires wide { width ≤ MAX_SIDE }
+    requires deep { height ≤ MAX_SIDE }
+    requires patch { IsPatch patch width height }
+    requires height { height ≡ depth old.now }
+    ensures { OnOk result (HasPatch patch old.now (depth old.now) new.new) }
+{
+    new.clear();
+    copy_rows(new, old, 0, patch.sides.top)?;
+    write_rows(new, row, old, width, patch)?;
+    copy_rows(new, old, patch.sides.bottom, height)
 }
