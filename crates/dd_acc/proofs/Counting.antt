@@ -1,6 +1,7 @@
 -- The scrolls of an interval, counted, and its effects.
 use Rattle.std.proofs.Common.{◌≡◌, ℕ, ◌+◌, ◌<◌, ◌≤◌, Bool, true, false, ◌||◌, cond, nat_lt, List, [], ◌∷◌, ◌++◌, length, take, get_or, refl, sym, ap, ◌∙◌, arith, inl, inr, ◌⊎◌, ⊎_elim, subst, append_assoc}
 use Rattle.std.specs.List.{list_all, flat_map, fold}
+use Rattle.std.proofs.Math.Bool.{or_assoc, or-false}
 use Rattle.std.proofs.lemmas.Bool.{and_parts, and_from, cond-false, cases_lt, lt-ltb, le-ltb}
 use Rattle.std.proofs.lemmas.List.{take_more, append-nil, length-append}
 use Rattle.dd_geom.specs.declared.rect.Move.{Move}
@@ -9,10 +10,10 @@ use Rattle.dd_geom.specs.Grid.{Grid}
 use Rattle.dd_ops.specs.declared.operations.Op.{Op}
 use Rattle.dd_ops.specs.declared.operations.Op.TheVariants.{Fill, Blit, Cover, Scroll}
 use Rattle.dd_ops.specs.Operations.{fits, all_fit}
+use Rattle.dd_ops.proofs.Fitting.{fits_at}
 use Rattle.dd_bits.specs.Area.{nowhere}
 use Rattle.dd_acc.specs.declared.interval.TheConstants.{MAX_MOVES}
 use Rattle.dd_acc.specs.Effects.{Effect, over, shifted, scroll_effect, effect, effects, scroll_in, scrolls, each_effects, move_in, moves_in, moves, dirtied, settled, must_round, rounds, dirt, is_coalesced, with_effect, presents_fit}
-use Rattle.std.proofs.lemmas.List.Sums.{AllPass-from_list_all}
 use Rattle.dd_acc.specs.Interval.{Interval, nothing, with_effects, with_present, Composes}
 use Rattle.dd_acc.proofs.Origins.{effect_fits, dirtied-push}
 
@@ -40,14 +41,18 @@ pub effects-alike : (a b : ℕ) (ops : List Op) → Alike a b → effects a ops 
 effects-alike a b [] e = refl
 effects-alike a b (op ∷ ops) e =
     ap (λ f. f ∷ effects (a + scroll_in op) ops) (effect-alike a b op e)
-    ∙ ap (λ es. effect b op ∷ es) (effects-alike (a + scroll_in op) (b + scroll_in op) ops (Alike-more a b (scroll_in op) e))
+    ∙ ap (λ es. effect b op ∷ es)
+    (effects-alike (a + scroll_in op) (b + scroll_in op) ops (Alike-more a b (scroll_in op) e))
 
 -- the moves that are told stand for the scrolls
-moves_here : (n l s : ℕ) (m : Move) (b : Bool) → nat_lt n MAX_MOVES ≡ b → Alike (n + 1 + l) (n + 1 + s) → Alike (n + (length (move_in (cond b (shifted m) (over m.dest))) + l)) (n + (1 + s))
+moves_here : (n l s : ℕ) (m : Move) (b : Bool) → nat_lt n MAX_MOVES ≡ b → Alike (n + 1 + l) (n + 1 + s)
+    → Alike (n + (length (move_in (cond b (shifted m) (over m.dest))) + l)) (n + (1 + s))
 moves_here n l s m true t (inl e) = inl (omega (arith, e))
 moves_here n l s m true t (inr e) = inr (omega (arith, e.0), omega (arith, e.1))
 moves_here n l s m false t e =
-    let past : MAX_MOVES ≤ n = ⊎_elim (λ (below : n < MAX_MOVES). absurd (let u : true ≡ false = sym (lt-ltb n MAX_MOVES below) ∙ t in cc)) (λ (p : MAX_MOVES ≤ n). p) (cases_lt n MAX_MOVES) in
+    let past : MAX_MOVES ≤ n =
+    ⊎_elim (λ (below : n < MAX_MOVES). absurd (let u : true ≡ false = sym (lt-ltb n MAX_MOVES below) ∙ t in cc))
+    (λ (p : MAX_MOVES ≤ n). p) (cases_lt n MAX_MOVES) in
     inr (omega (arith, past), omega (arith, past))
 
 no_more : (n l s : ℕ) → Alike (n + 0 + l) (n + 0 + s) → Alike (n + l) (n + (0 + s))
@@ -56,7 +61,8 @@ no_more n l s (inr e) = inr (omega (arith, e.0), omega (arith, e.1))
 
 pub moves_in-append : (a b : List Effect) → moves_in (a ++ b) ≡ moves_in a ++ moves_in b
 moves_in-append [] b = refl
-moves_in-append (e ∷ a) b = ap (λ ms. move_in e ++ ms) (moves_in-append a b) ∙ sym (append_assoc (move_in e) (moves_in a) (moves_in b))
+moves_in-append (e ∷ a) b = ap (λ ms. move_in e ++ ms) (moves_in-append a b)
+    ∙ sym (append_assoc (move_in e) (moves_in a) (moves_in b))
 
 pub Alike-moves : (n : ℕ) (ops : List Op) → Alike (n + length (moves_in (effects n ops))) (n + scrolls ops)
 Alike-moves n [] = inl refl
@@ -75,7 +81,8 @@ effects-append n (op ∷ a) b =
     ∙ ap (λ m. effect n op ∷ (effects (n + scroll_in op) a ++ effects m b)) (omega arith)
 
 -- the effects of operations that fit lie inside
-fits_if : (w h : ℕ) (b : Bool) (m : Move) → is_move_inside m w h ≡ true → effect_fits w h (cond b (shifted m) (over m.dest)) ≡ true
+fits_if : (w h : ℕ) (b : Bool) (m : Move) → is_move_inside m w h ≡ true
+    → effect_fits w h (cond b (shifted m) (over m.dest)) ≡ true
 fits_if w h true m e = e
 fits_if w h false m e = refl
 
@@ -85,26 +92,31 @@ effect-fits w h n (Blit r c) e = refl
 effect-fits w h n (Cover r c) e = refl
 effect-fits w h n (Scroll m) e = fits_if w h (nat_lt n MAX_MOVES) m e
 
-pub effects-fit : (w h n : ℕ) (ops : List Op) → all_fit w h ops ≡ true → list_all (effect_fits w h) (effects n ops) ≡ true
+pub effects-fit : (w h n : ℕ) (ops : List Op) → all_fit w h ops ≡ true → list_all (effect_fits w h) (effects n ops)
+    ≡ true
 effects-fit w h n [] e = refl
 effects-fit w h n (op ∷ ops) e =
     let both = and_parts (fits w h op) (all_fit w h ops) e in
     and_from _ _ (effect-fits w h n op both.0) (effects-fit w h (n + scroll_in op) ops both.1)
 
-pub list_all-append : {A : Type 0} (p : A → Bool) (a b : List A) → list_all p a ≡ true → list_all p b ≡ true → list_all p (a ++ b) ≡ true
+pub list_all-append : {A : Type 0} (p : A → Bool) (a b : List A) → list_all p a ≡ true → list_all p b ≡ true
+    → list_all p (a ++ b) ≡ true
 list_all-append p [] b e f = f
 list_all-append p (x ∷ a) b e f =
     let both = and_parts (p x) (list_all p a) e in
     and_from _ _ both.0 (list_all-append p a b both.1 f)
 
-pub each-fit : (w h n : ℕ) (ps : List (List Op)) → presents_fit w h ps ≡ true → list_all (effect_fits w h) (flat_map (λ es. es) (each_effects n ps)) ≡ true
+pub each-fit : (w h n : ℕ) (ps : List (List Op)) → presents_fit w h ps ≡ true
+    → list_all (effect_fits w h) (flat_map (λ es. es) (each_effects n ps)) ≡ true
 each-fit w h n [] e = refl
 each-fit w h n (ops ∷ ps) e =
     let both = and_parts (all_fit w h ops) (presents_fit w h ps) e in
-    list_all-append (effect_fits w h) (effects n ops) _ (effects-fit w h n ops both.0) (each-fit w h (n + scrolls ops) ps both.1)
+    list_all-append (effect_fits w h) (effects n ops) _ (effects-fit w h n ops both.0)
+    (each-fit w h (n + scrolls ops) ps both.1)
 
 -- one turn of the loop over the operations: what the next one does
-pub effect_next : (ms : List Move) (more : List Move) (ops : List Op) (op : Op) → more ≡ ms ++ moves_in (effects (length ms) ops) → effect (length more) op ≡ effect (length ms + scrolls ops) op
+pub effect_next : (ms : List Move) (more : List Move) (ops : List Op) (op : Op) → more
+    ≡ ms ++ moves_in (effects (length ms) ops) → effect (length more) op ≡ effect (length ms + scrolls ops) op
 effect_next ms more ops op e =
     ap (λ (xs : List Move). effect (length xs) op) e
     ∙ (ap (λ n. effect n op) (length-append ms (moves_in (effects (length ms) ops)))
@@ -116,11 +128,6 @@ pub effects_next :
 effects_next n ops k op k_in is =
     ap (effects n) (take_more ops k op k_in ∙ ap (λ o. take k ops ++ o ∷ []) (sym is))
     ∙ effects-append n (take k ops) (op ∷ [])
-
-pub fits_at :
-    (w h : ℕ) (ops : List Op) (k : ℕ) (op : Op) → all_fit w h ops ≡ true → k < length ops → op ≡ get_or ops k op
-    → fits w h op ≡ true
-fits_at w h ops k op t k_in is = ap (λ (o : Op). fits w h o) is ∙ AllPass-from_list_all (fits w h) ops t k op k_in
 
 pub area_more :
     (g area : Grid Bool) (ms more : List Move) (ops : List Op) (k : ℕ) (op : Op) → k < length ops → op ≡ get_or ops k op
@@ -168,14 +175,6 @@ made area ms ns b c k n e f h =
     ∙ (ap (λ d. record { area = area; moves = ns; coalesced = d; frames = k }) f
     ∙ ap (λ m. record { area = area; moves = ns; coalesced = c; frames = m }) h)
 
-or_none : (b : Bool) → b ≡ (b || false)
-or_none true = refl
-or_none false = refl
-
-or_assoc : (a b c : Bool) → ((a || b) || c) ≡ (a || (b || c))
-or_assoc true b c = refl
-or_assoc false b c = refl
-
 added :
     (ps : List (List Op)) (i : Interval) (n : ℕ) → Alike (length i.moves) n
     → fold with_present i ps
@@ -187,7 +186,7 @@ added :
     }
 added [] i n e =
     made i.area i.moves (i.moves ++ []) i.coalesced (i.coalesced || false) i.frames (i.frames + 0)
-    (sym (append-nil i.moves)) (or_none i.coalesced) (omega arith)
+    (sym (append-nil i.moves)) (sym (or-false i.coalesced)) (omega arith)
 added (ops ∷ ps) i n e =
     let es : List Effect = effects n ops in
     let next : Interval = with_effects i es in
@@ -195,7 +194,8 @@ added (ops ∷ ps) i n e =
     let rest : List Effect = flat_map (λ fs. fs) later in
     let alike : Alike (length (i.moves ++ moves_in es)) (n + scrolls ops) =
     subst (λ k. Alike k (n + scrolls ops)) (sym (length-append i.moves (moves_in es)))
-    (Alike-trans _ (n + length (moves_in es)) _ (Alike-more (length i.moves) n (length (moves_in es)) e) (Alike-moves n ops)) in
+    (Alike-trans _ (n + length (moves_in es)) _ (Alike-more (length i.moves) n (length (moves_in es)) e)
+    (Alike-moves n ops)) in
     ap (λ fs. fold with_present (with_effects i fs) ps) (effects-alike (length i.moves) n ops e)
     ∙ (added ps next (n + scrolls ops) alike
     ∙ made (fold settled (settled i.area es) later) _ _ _ _ _ _

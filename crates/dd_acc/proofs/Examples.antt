@@ -1,5 +1,5 @@
--- Small intervals on a surface of 4 by 3 points: where points come from, what is dirty, what is told as a move, and what
--- is rebuilt.
+-- How many moves a frame has, and small intervals on a surface of 4 by 3 points: where points come from, what is dirty,
+-- what is told as a move, and what is rebuilt.
 use Rattle.std.proofs.Common.{◌≡◌, ℕ, true, false, pos, List, [], ◌∷◌, length, replicate, map, ◌+◌, ◌*◌, refl}
 use Rattle.dd_geom.specs.declared.rect.Rect.{Rect}
 use Rattle.dd_geom.specs.declared.rect.Move.{Move}
@@ -12,8 +12,12 @@ use Rattle.dd_ops.specs.declared.operations.Op.{Op}
 use Rattle.dd_ops.specs.declared.operations.Op.TheVariants.{Fill, Blit, Cover, Scroll}
 use Rattle.dd_ops.specs.Operations.{drawn}
 use Rattle.std.specs.List.{fold, range_with_len}
+use Rattle.dd_acc.specs.declared.interval.TheConstants.{MAX_MOVES}
 use Rattle.dd_acc.specs.Effects.{over, shifted, fresh, kept, origin, dirtied, dirt, moves, any_reaches, is_coalesced}
 use Rattle.dd_acc.specs.Rebuild.{all_moved, rebuild}
+
+max_moves : MAX_MOVES ≡ 16
+max_moves = refl
 
 abbrev rect : ℕ → ℕ → ℕ → ℕ → Rect
 rect l t r b = record { left = pos l; top = pos t; right = pos r; bottom = pos b }

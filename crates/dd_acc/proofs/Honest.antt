@@ -1,7 +1,8 @@
 -- The dirty points of an interval: what all of its effects together draw afresh, and no point out of their reach.
 use Rattle.std.proofs.Common.{◌≡◌, ℕ, ◌+◌, ◌^◌, ◌<◌, ◌≤◌, Bool, true, false, ◌||◌, cond, List, [], ◌∷◌, ◌++◌, refl, sym, ap, ◌∙◌, ⊎_elim, nat_lt, arith}
 use Rattle.std.specs.List.{list_all, list_any, flat_map, fold}
-use Rattle.std.proofs.lemmas.Bool.{and_parts, cond-false, cases_lt, ltb-false}
+use Rattle.std.proofs.Math.Bool.{or_assoc}
+use Rattle.std.proofs.lemmas.Bool.{and_parts, or_parts, cond-false, cases_lt, ltb-false}
 use Rattle.dd_geom.specs.declared.rect.Move.{Move}
 use Rattle.dd_geom.specs.Rect.{has}
 use Rattle.dd_geom.specs.Grid.{Grid, grid}
@@ -43,13 +44,16 @@ whole-fold : (ess : List (List Effect)) (g : Grid Bool) → IsWhole g → IsWhol
 whole-fold [] g whole = whole
 whole-fold (es ∷ ess) g whole = whole-fold ess (settled g es) (whole-settled g es)
 
-is_in-dirtied : (g : Grid Bool) (es : List Effect) (x y : ℕ) → x < g.width → y < g.height → is_in (dirtied g es) x y ≡ touched (is_in g) es x y
+is_in-dirtied : (g : Grid Bool) (es : List Effect) (x y : ℕ) → x < g.width → y < g.height → is_in (dirtied g es) x y
+    ≡ touched (is_in g) es x y
 unfolding dirtied
 is_in-dirtied g es x y across down = value_at-grid false g.width g.height (touched (is_in g) es) x y across down
 
-fits_later : (w h : ℕ) (a b : List Effect) → list_all (effect_fits w h) (a ++ b) ≡ true → list_all (effect_fits w h) b ≡ true
+fits_later : (w h : ℕ) (a b : List Effect) → list_all (effect_fits w h) (a ++ b) ≡ true → list_all (effect_fits w h) b
+    ≡ true
 fits_later w h [] b e = e
-fits_later w h (x ∷ a) b e = fits_later w h a b (and_parts (effect_fits w h x) (list_all (effect_fits w h) (a ++ b)) e).1
+fits_later w h (x ∷ a) b e =
+    fits_later w h a b (and_parts (effect_fits w h x) (list_all (effect_fits w h) (a ++ b)) e).1
 
 -- what presents touch one after another is what they touch together
 pub is_in-fold :
@@ -58,7 +62,8 @@ pub is_in-fold :
 is_in-fold [] g x y fits across down = refl
 is_in-fold (es ∷ ess) g x y fits across down =
     let next : Grid Bool = dirtied g es in
-    let later : list_all (effect_fits g.width g.height) (joined ess) ≡ true = fits_later g.width g.height es (joined ess) fits in
+    let later : list_all (effect_fits g.width g.height) (joined ess) ≡ true =
+    fits_later g.width g.height es (joined ess) fits in
     let wide : next.width ≡ g.width = width-dirtied g es in
     let high : next.height ≡ g.height = height-dirtied g es in
     is_in-fold ess next x y (rw (wide, high) later) (rw wide across) (rw high down)
@@ -67,11 +72,13 @@ is_in-fold (es ∷ ess) g x y fits across down =
     ∙ touched-touched (is_in g) es (joined ess) x y)
 
 -- and where they are rounded in between no point of these goes away
-grows : (w h : ℕ) (f g : ℕ → ℕ → Bool) (o : Origin) → ((x y : ℕ) → x < w → y < h → f x y ≡ true → g x y ≡ true) → Lies w h o → is_touched f o ≡ true → is_touched g o ≡ true
+grows : (w h : ℕ) (f g : ℕ → ℕ → Bool) (o : Origin) → ((x y : ℕ) → x < w → y < h → f x y ≡ true → g x y ≡ true)
+    → Lies w h o → is_touched f o ≡ true → is_touched g o ≡ true
 grows w h f g fresh e l t = refl
 grows w h f g (kept x y) e l t = e x y l.0 l.1 t
 
-kept-settled : (g : Grid Bool) (es : List Effect) (x y : ℕ) → x < g.width → y < g.height → touched (is_in g) es x y ≡ true → is_in (settled g es) x y ≡ true
+kept-settled : (g : Grid Bool) (es : List Effect) (x y : ℕ) → x < g.width → y < g.height → touched (is_in g) es x y
+    ≡ true → is_in (settled g es) x y ≡ true
 kept-settled g es x y across down t = keeps_points (dirtied g es) x y (is_in-dirtied g es x y across down ∙ t)
 
 kept-fold :
@@ -80,21 +87,14 @@ kept-fold :
 kept-fold [] g x y fits across down t = t
 kept-fold (es ∷ ess) g x y fits across down t =
     let next : Grid Bool = settled g es in
-    let later : list_all (effect_fits g.width g.height) (joined ess) ≡ true = fits_later g.width g.height es (joined ess) fits in
+    let later : list_all (effect_fits g.width g.height) (joined ess) ≡ true =
+    fits_later g.width g.height es (joined ess) fits in
     let wide : next.width ≡ g.width = width-settled g es in
     let high : next.height ≡ g.height = height-settled g es in
     kept-fold ess next x y (rw (wide, high) later) (rw wide across) (rw high down)
     (grows g.width g.height (touched (is_in g) es) (is_in next) (origin (joined ess) x y)
     (λ a b u v. kept-settled g es a b u v) (Lies-origin g.width g.height (joined ess) x y later across down)
     (touched-touched (is_in g) es (joined ess) x y ∙ t))
-
-or_left : (a b : Bool) → (a || b) ≡ false → a ≡ false
-or_left true b h = h
-or_left false b h = refl
-
-or_right : (a b : Bool) → (a || b) ≡ false → b ≡ false
-or_right true b h = absurd (let u : true ≡ false = h in cc)
-or_right false b h = h
 
 -- where no present has to be rounded none is
 none_below : (n : ℕ) → nat_lt 0 n ≡ false → n ≡ 0
@@ -108,8 +108,8 @@ settled_exact g es e =
 fold_exact : (ess : List (List Effect)) (g : Grid Bool) → rounds g ess ≡ false → fold settled g ess ≡ fold dirtied g ess
 fold_exact [] g e = refl
 fold_exact (es ∷ ess) g e =
-    fold_exact ess (settled g es) (or_right (must_round g es) (rounds (settled g es) ess) e)
-    ∙ ap (λ d. fold dirtied d ess) (settled_exact g es (or_left (must_round g es) (rounds (settled g es) ess) e))
+    fold_exact ess (settled g es) (or_parts (must_round g es) (rounds (settled g es) ess) e).1
+    ∙ ap (λ d. fold dirtied d ess) (settled_exact g es (or_parts (must_round g es) (rounds (settled g es) ess) e).0)
 
 is_in-nowhere : (w h x y : ℕ) → x < w → y < h → is_in (nowhere w h) x y ≡ false
 is_in-nowhere w h x y across down = value_at-grid false w h (λ a b. false) x y across down
@@ -126,7 +126,8 @@ pub drawn-dirt :
     → drawn_afresh (all_effects ps) x y ≡ true → is_in (dirt w h ps) x y ≡ true
 unfolding dirt
 drawn-dirt w h ps x y fits across down t =
-    kept-fold (each_effects 0 ps) (nowhere w h) x y (each-fit w h 0 ps fits) across down (nothing_before w h ps x y fits across down ∙ t)
+    kept-fold (each_effects 0 ps) (nowhere w h) x y (each-fit w h 0 ps fits) across down
+    (nothing_before w h ps x y fits across down ∙ t)
 
 -- and where nothing is rounded no other point is
 pub is_in-dirt :
@@ -150,9 +151,11 @@ pub whole-dirt : (w h : ℕ) (ps : List (List Op)) → IsWhole (dirt w h ps)
 unfolding dirt
 whole-dirt w h ps = whole-fold (each_effects 0 ps) (nowhere w h) (whole-nowhere w h)
 
-dirt-exact : (w h : ℕ) (ps : List (List Op)) → is_coalesced w h ps ≡ false → presents_fit w h ps ≡ true → dirt w h ps ≡ grid w h (drawn_afresh (all_effects ps))
+dirt-exact : (w h : ℕ) (ps : List (List Op)) → is_coalesced w h ps ≡ false → presents_fit w h ps ≡ true → dirt w h ps
+    ≡ grid w h (drawn_afresh (all_effects ps))
 dirt-exact w h ps none fits =
-    same_grids false (dirt w h ps) (grid w h (drawn_afresh (all_effects ps))) (whole-dirt w h ps) (length-cells w h (drawn_afresh (all_effects ps)))
+    same_grids false (dirt w h ps) (grid w h (drawn_afresh (all_effects ps))) (whole-dirt w h ps)
+    (length-cells w h (drawn_afresh (all_effects ps)))
     (width-dirt w h ps) (height-dirt w h ps)
     (λ x y across down.
     let a : x < w = rw (← width-dirt w h ps) across in
@@ -172,10 +175,11 @@ unmoved (shifted m) x y h = cond-false (has m.dest x y) _ (kept x y) h
 unreached : (es : List Effect) (x y : ℕ) → list_any (affects x y) es ≡ false → origin es x y ≡ kept x y
 unreached [] x y h = refl
 unreached (e ∷ es) x y h =
-    ap (λ o. back o (before e)) (unreached es x y (or_right (affects x y e) (list_any (affects x y) es) h))
-    ∙ unmoved e x y (or_left (affects x y e) (list_any (affects x y) es) h)
+    ap (λ o. back o (before e)) (unreached es x y (or_parts (affects x y e) (list_any (affects x y) es) h).1)
+    ∙ unmoved e x y (or_parts (affects x y e) (list_any (affects x y) es) h).0
 
-true_from : (b : Bool) (o : Origin) (x y : ℕ) → (b ≡ false → o ≡ kept x y) → is_touched (λ a c. false) o ≡ true → b ≡ true
+true_from : (b : Bool) (o : Origin) (x y : ℕ) → (b ≡ false → o ≡ kept x y) → is_touched (λ a c. false) o ≡ true → b
+    ≡ true
 true_from true o x y e t = refl
 true_from false o x y e t = let k : false ≡ true = sym (ap (is_touched (λ a c. false)) (e refl)) ∙ t in cc
 
@@ -196,19 +200,18 @@ affects-effect n (Scroll m) x y = affects_if (nat_lt n MAX_MOVES) m x y
 or_both : (a b c d : Bool) → a ≡ b → c ≡ d → (a || c) ≡ (b || d)
 or_both a b c d e f = ap (λ t. t || c) e ∙ ap (λ t. b || t) f
 
-affects-effects : (n : ℕ) (ops : List Op) (x y : ℕ) → list_any (affects x y) (effects n ops) ≡ list_any (λ op. has (reach op) x y) ops
+affects-effects : (n : ℕ) (ops : List Op) (x y : ℕ) → list_any (affects x y) (effects n ops)
+    ≡ list_any (λ op. has (reach op) x y) ops
 affects-effects n [] x y = refl
-affects-effects n (op ∷ ops) x y = or_both _ _ _ _ (affects-effect n op x y) (affects-effects (n + scroll_in op) ops x y)
-
-or_assoc : (a b c : Bool) → ((a || b) || c) ≡ (a || (b || c))
-or_assoc true b c = refl
-or_assoc false b c = refl
+affects-effects n (op ∷ ops) x y =
+    or_both _ _ _ _ (affects-effect n op x y) (affects-effects (n + scroll_in op) ops x y)
 
 any-append : (p : Effect → Bool) (a b : List Effect) → list_any p (a ++ b) ≡ (list_any p a || list_any p b)
 any-append p [] b = refl
 any-append p (e ∷ a) b = ap (λ t. p e || t) (any-append p a b) ∙ sym (or_assoc (p e) (list_any p a) (list_any p b))
 
-affects-each : (n : ℕ) (ps : List (List Op)) (x y : ℕ) → list_any (affects x y) (joined (each_effects n ps)) ≡ any_reaches ps x y
+affects-each : (n : ℕ) (ps : List (List Op)) (x y : ℕ) → list_any (affects x y) (joined (each_effects n ps))
+    ≡ any_reaches ps x y
 affects-each n [] x y = refl
 affects-each n (ops ∷ ps) x y =
     any-append (affects x y) (effects n ops) (joined (each_effects (n + scrolls ops) ps))
@@ -219,12 +222,15 @@ inside_of : (w h : ℕ) (ps : List (List Op)) (x y : ℕ) → is_in (dirt w h ps
 inside_of w h ps x y t = ⊎_elim
     (λ (across : x < w). ⊎_elim
     (λ (down : y < h). (across, down))
-    (λ (low : h ≤ y). absurd (let u : false ≡ true = sym (value_at-below false (dirt w h ps) x y (rw (height-dirt w h ps) low)) ∙ t in cc))
+    (λ (low : h ≤ y). absurd
+    (let u : false ≡ true = sym (value_at-below false (dirt w h ps) x y (rw (height-dirt w h ps) low)) ∙ t in cc))
     (cases_lt y h))
-    (λ (right : w ≤ x). absurd (let u : false ≡ true = sym (value_at-right false (dirt w h ps) x y (rw (width-dirt w h ps) right)) ∙ t in cc))
+    (λ (right : w ≤ x). absurd
+    (let u : false ≡ true = sym (value_at-right false (dirt w h ps) x y (rw (width-dirt w h ps) right)) ∙ t in cc))
     (cases_lt x w)
 
-dirt-reached : (w h : ℕ) (ps : List (List Op)) (x y : ℕ) → is_coalesced w h ps ≡ false → presents_fit w h ps ≡ true → is_in (dirt w h ps) x y ≡ true → any_reaches ps x y ≡ true
+dirt-reached : (w h : ℕ) (ps : List (List Op)) (x y : ℕ) → is_coalesced w h ps ≡ false → presents_fit w h ps ≡ true
+    → is_in (dirt w h ps) x y ≡ true → any_reaches ps x y ≡ true
 dirt-reached w h ps x y none fits t =
     let i = inside_of w h ps x y t in
     sym (affects-each 0 ps x y) ∙ any_reached (all_effects ps) x y (sym (is_in-dirt w h ps x y none fits i.0 i.1) ∙ t)

@@ -1,18 +1,11 @@
--- The empty set has no rectangles, and the sets of an interval are sets of points of a surface.
-use Rattle.std.proofs.Common.{◌≡◌, ℕ, ◌-◌, ◌^◌, Bool, true, false, List, [], ◌∷◌, ◌++◌, refl, if◌then◌else◌, ap, ◌∙◌, sym, subst, ⊎_elim}
+-- The empty set has no rectangles.
+use Rattle.std.proofs.Common.{◌≡◌, ℕ, ◌-◌, Bool, true, false, List, [], ◌∷◌, ◌++◌, refl, if◌then◌else◌, ap, ◌∙◌, ⊎_elim}
 use Rattle.std.specs.List.{flat_map, range_with_len}
 use Rattle.std.proofs.lemmas.Bool.{and_left, cond-false, cases_lt}
 use Rattle.dd_geom.specs.declared.rect.Rect.{Rect}
-use Rattle.dd_geom.specs.Rect.{IsSize}
-use Rattle.dd_geom.specs.Grid.{Grid}
 use Rattle.dd_geom.proofs.GridLemmas.{value_at-grid, value_at-right, value_at-below}
-use Rattle.dd_bits.specs.Area.{is_in, nowhere, IsArea}
-use Rattle.dd_bits.specs.CanonicalList.{starts_run, run_end, rect_from, run_at, row_runs, starts_band, band_end, band_at, canonical_list}
-use Rattle.dd_bits.specs.Tiles.{tiles}
-use Rattle.dd_bits.proofs.TileLemmas.{width-tiles, height-tiles, whole-tiles}
-use Rattle.dd_coal.specs.Power.{power, rounded_to}
-use Rattle.dd_acc.specs.Effects.{Effect, dirtied, settled}
-use Rattle.dd_acc.proofs.Origins.{width-dirtied, height-dirtied, whole-dirtied, whole-nowhere}
+use Rattle.dd_bits.specs.Area.{is_in, nowhere}
+use Rattle.dd_bits.specs.CanonicalList.{starts_run, run_end, rect_from, run_at, starts_band, band_end, band_at, canonical_list}
 
 is_in-nowhere : (w h x y : ℕ) → is_in (nowhere w h) x y ≡ false
 is_in-nowhere w h x y = ⊎_elim
@@ -41,19 +34,6 @@ list-nowhere w h =
     all_none (band_at (nowhere w h))
     (λ y. if_none (starts_band (nowhere w h) y) _
     (all_none (run_at (λ x. is_in (nowhere w h) x y) w y (band_end (nowhere w h) y))
-    (λ x. none_starts (λ a. is_in (nowhere w h) a y) w y (band_end (nowhere w h) y) x (is_in-nowhere w h x y)) (range_with_len 0 w)))
+    (λ x. none_starts (λ a. is_in (nowhere w h) a y) w y (band_end (nowhere w h) y) x (is_in-nowhere w h x y))
+    (range_with_len 0 w)))
     (range_with_len 0 h)
-
-sized : (w h v k : ℕ) → v ≡ w → k ≡ h → IsSize w h → IsSize v k
-sized w h v k e f size = subst (λ (n : ℕ). IsSize n k) (sym e) (subst (λ (n : ℕ). IsSize w n) (sym f) size)
-
-pub IsArea-nowhere : (w h : ℕ) → IsSize w h → IsArea (nowhere w h)
-IsArea-nowhere w h size = record { size = size; whole = whole-nowhere w h }
-
-pub IsArea-dirtied : (g : Grid Bool) (es : List Effect) → IsArea g → IsArea (dirtied g es)
-IsArea-dirtied g es area =
-    record { size = sized g.width g.height _ _ (width-dirtied g es) (height-dirtied g es) area.size; whole = whole-dirtied g es }
-
-pub IsArea-rounded : (j : ℕ) (g : Grid Bool) → IsArea g → IsArea (rounded_to j g)
-IsArea-rounded j g area =
-    record { size = sized g.width g.height _ _ (width-tiles (2 ^ j) g) (height-tiles (2 ^ j) g) area.size; whole = whole-tiles (2 ^ j) g }

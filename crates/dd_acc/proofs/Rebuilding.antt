@@ -1,4 +1,5 @@
--- A surface is rebuilt from the one before: its moves take each point that was kept to its place, and the rest is copied.
+-- A surface is rebuilt from the one before: its moves take each point that was kept to its place, and the rest is
+-- copied.
 use Rattle.std.proofs.Common.{◌≡◌, ℕ, ◌+◌, ◌<◌, Bool, true, false, cond, nat_lt, List, [], ◌∷◌, refl, sym, ap, ◌∙◌, if◌then◌else◌, subst}
 use Rattle.std.specs.List.{list_all, flat_map, fold}
 use Rattle.std.proofs.lemmas.Bool.{and_parts}
@@ -12,9 +13,10 @@ use Rattle.dd_grid.specs.Drawing.{cell_at, moved_cells, moved, image_at, seen}
 use Rattle.dd_ops.specs.declared.operations.Op.{Op}
 use Rattle.dd_ops.specs.declared.operations.Op.TheVariants.{Fill, Blit, Cover, Scroll}
 use Rattle.dd_ops.specs.Operations.{fits, all_fit, drawn_by, drawn}
+use Rattle.dd_ops.proofs.Pictures.{SameSize-drawn_by}
 use Rattle.dd_acc.specs.declared.interval.TheConstants.{MAX_MOVES}
 use Rattle.dd_acc.specs.Effects.{Effect, over, shifted, effect, effects, scroll_in, scrolls, each_effects, all_effects, moves_in, moves, Origin, fresh, kept, before, back, origin, is_touched, drawn_afresh, presents_fit}
-use Rattle.dd_acc.specs.Rebuild.{any_has, all_moved, Rebuilds}
+use Rattle.dd_acc.specs.Rebuild.{any_has, all_moved, MovesAndDirtRebuild}
 use Rattle.dd_acc.proofs.Origins.{effect_fits, Lies, Lies-origin, origin-append}
 use Rattle.dd_acc.proofs.Counting.{effects-fit, each-fit}
 
@@ -23,7 +25,8 @@ abbrev Comes : {A : Type 0} → A → Grid A → Origin → A → Type 0
 Comes d g fresh v = Unit {0}
 Comes d g (kept x y) v = v ≡ value_at d g x y
 
-comes_if : {A : Type 0} (d : A) (g : Grid A) (b : Bool) (o p : Origin) (u v : A) → (b ≡ true → Comes d g o u) → (b ≡ false → Comes d g p v) → Comes d g (cond b o p) (cond b u v)
+comes_if : {A : Type 0} (d : A) (g : Grid A) (b : Bool) (o p : Origin) (u v : A) → (b ≡ true → Comes d g o u)
+    → (b ≡ false → Comes d g p v) → Comes d g (cond b o p) (cond b u v)
 comes_if d g true o p u v e f = e refl
 comes_if d g false o p u v e f = f refl
 
@@ -33,54 +36,52 @@ at_if d g fresh u v e c = tt
 at_if d g (kept x y) u v e c = e ∙ c
 
 -- a point of a scrolled grid
-comes-scrolled : {A : Type 0} (d : A) (g : Grid A) (m : Move) (x y : ℕ) → x < g.width → y < g.height → Comes d g (before (shifted m) x y) (value_at d (scrolled d g m) x y)
+comes-scrolled : {A : Type 0} (d : A) (g : Grid A) (m : Move) (x y : ℕ) → x < g.width → y < g.height
+    → Comes d g (before (shifted m) x y) (value_at d (scrolled d g m) x y)
 comes-scrolled d g m x y across down =
-    at_if d g (before (shifted m) x y) _ _ (value_at-grid d g.width g.height (λ a b. cond (has m.dest a b) (value_at d g (source_x m a) (source_y m b)) (value_at d g a b)) x y across down)
+    at_if d g (before (shifted m) x y) _ _
+    (value_at-grid d g.width g.height
+    (λ a b. cond (has m.dest a b) (value_at d g (source_x m a) (source_y m b)) (value_at d g a b)) x y across down)
     (comes_if d g (has m.dest x y) (kept (source_x m x) (source_y m y)) (kept x y) _ _ (λ _. refl) (λ _. refl))
 
 -- a point of a grid drawn over in a rectangle
 comes-drawn : {A : Type 0} (d : A) (g : Grid A) (r : Rect) (f : ℕ → ℕ → A) (x y : ℕ) → x < g.width → y < g.height
-    → Comes d g (before (over r) x y) (value_at d (grid g.width g.height (λ a b. cond (has r a b) (f a b) (value_at d g a b))) x y)
+    → Comes d g (before (over r) x y)
+    (value_at d (grid g.width g.height (λ a b. cond (has r a b) (f a b) (value_at d g a b))) x y)
 comes-drawn d g r f x y across down =
-    at_if d g (before (over r) x y) _ _ (value_at-grid d g.width g.height (λ a b. cond (has r a b) (f a b) (value_at d g a b)) x y across down)
+    at_if d g (before (over r) x y) _ _
+    (value_at-grid d g.width g.height (λ a b. cond (has r a b) (f a b) (value_at d g a b)) x y across down)
     (comes_if d g (has r x y) fresh (kept x y) _ _ (λ _. tt) (λ _. refl))
 
 -- the same for one operation on a picture
-comes_scroll : (p : Grid Cell) (m : Move) (b : Bool) (x y : ℕ) → x < p.width → y < p.height → Comes (plain 0) p (before (cond b (shifted m) (over m.dest)) x y) (cell_at (moved_cells p m) x y)
+comes_scroll : (p : Grid Cell) (m : Move) (b : Bool) (x y : ℕ) → x < p.width → y < p.height
+    → Comes (plain 0) p (before (cond b (shifted m) (over m.dest)) x y) (cell_at (moved_cells p m) x y)
 comes_scroll p m true x y across down = comes-scrolled (plain 0) p m x y across down
-comes_scroll p m false x y across down = comes-drawn (plain 0) p m.dest (λ a b. cell_at p (source_x m a) (source_y m b)) x y across down
+comes_scroll p m false x y across down =
+    comes-drawn (plain 0) p m.dest (λ a b. cell_at p (source_x m a) (source_y m b)) x y across down
 
-comes-op : (n : ℕ) (op : Op) (p : Grid Cell) (x y : ℕ) → x < p.width → y < p.height → Comes (plain 0) p (before (effect n op) x y) (cell_at (drawn_by p op) x y)
+comes-op : (n : ℕ) (op : Op) (p : Grid Cell) (x y : ℕ) → x < p.width → y < p.height
+    → Comes (plain 0) p (before (effect n op) x y) (cell_at (drawn_by p op) x y)
 comes-op n (Fill r c) p x y across down = comes-drawn (plain 0) p r (λ a b. plain c) x y across down
 comes-op n (Blit r cs) p x y across down = comes-drawn (plain 0) p r (λ a b. plain (image_at r cs a b)) x y across down
-comes-op n (Cover r cs) p x y across down = comes-drawn (plain 0) p r (λ a b. covered_cell (image_at r cs a b)) x y across down
+comes-op n (Cover r cs) p x y across down =
+    comes-drawn (plain 0) p r (λ a b. covered_cell (image_at r cs a b)) x y across down
 comes-op n (Scroll m) p x y across down = comes_scroll p m (nat_lt n MAX_MOVES) x y across down
 
 -- goes on backward: a value that comes from a point comes from where that point comes from
-comes-back : {A : Type 0} (d : A) (g next : Grid A) (e : Effect) (o : Origin) (v : A) → ((x y : ℕ) → x < next.width → y < next.height → Comes d g (before e x y) (value_at d next x y))
+comes-back : {A : Type 0} (d : A) (g next : Grid A) (e : Effect) (o : Origin) (v : A)
+    → ((x y : ℕ) → x < next.width → y < next.height → Comes d g (before e x y) (value_at d next x y))
     → Lies next.width next.height o → Comes d next o v → Comes d g (back o (before e)) v
 comes-back d g next e fresh v step l c = tt
 comes-back d g next e (kept x y) v step l c = at_if d g (before e x y) v _ c (step x y l.0 l.1)
 
-width-drawn_by : (op : Op) (p : Grid Cell) → (drawn_by p op).width ≡ p.width
-width-drawn_by (Fill r c) p = refl
-width-drawn_by (Blit r c) p = refl
-width-drawn_by (Cover r c) p = refl
-width-drawn_by (Scroll m) p = refl
-
-height-drawn_by : (op : Op) (p : Grid Cell) → (drawn_by p op).height ≡ p.height
-height-drawn_by (Fill r c) p = refl
-height-drawn_by (Blit r c) p = refl
-height-drawn_by (Cover r c) p = refl
-height-drawn_by (Scroll m) p = refl
-
 pub width-drawn : (ops : List Op) (p : Grid Cell) → (drawn p ops).width ≡ p.width
 width-drawn [] p = refl
-width-drawn (op ∷ ops) p = width-drawn ops (drawn_by p op) ∙ width-drawn_by op p
+width-drawn (op ∷ ops) p = width-drawn ops (drawn_by p op) ∙ (SameSize-drawn_by p op).width
 
 pub height-drawn : (ops : List Op) (p : Grid Cell) → (drawn p ops).height ≡ p.height
 height-drawn [] p = refl
-height-drawn (op ∷ ops) p = height-drawn ops (drawn_by p op) ∙ height-drawn_by op p
+height-drawn (op ∷ ops) p = height-drawn ops (drawn_by p op) ∙ (SameSize-drawn_by p op).height
 
 pub width-presents : (ps : List (List Op)) (p : Grid Cell) → (fold drawn p ps).width ≡ p.width
 width-presents [] p = refl
@@ -91,30 +92,34 @@ height-presents [] p = refl
 height-presents (ops ∷ ps) p = height-presents ps (drawn p ops) ∙ height-drawn ops p
 
 -- each point of the picture after a present comes from its origin
-comes-ops : (n : ℕ) (ops : List Op) (p : Grid Cell) (x y : ℕ) → all_fit p.width p.height ops ≡ true → x < p.width → y < p.height
+comes-ops : (n : ℕ) (ops : List Op) (p : Grid Cell) (x y : ℕ) → all_fit p.width p.height ops ≡ true → x < p.width
+    → y < p.height
     → Comes (plain 0) p (origin (effects n ops) x y) (cell_at (drawn p ops) x y)
 comes-ops n [] p x y fit across down = refl
 comes-ops n (op ∷ ops) p x y fit across down =
     let next : Grid Cell = drawn_by p op in
     let later = (and_parts (fits p.width p.height op) (all_fit p.width p.height ops) fit).1 in
-    let wide = width-drawn_by op p in
-    let high = height-drawn_by op p in
+    let wide = (SameSize-drawn_by p op).width in
+    let high = (SameSize-drawn_by p op).height in
     let more = n + scroll_in op in
     let fit_next : all_fit next.width next.height ops ≡ true = rw (wide, high) later in
     let across_next : x < next.width = rw wide across in
     let down_next : y < next.height = rw high down in
     comes-back (plain 0) p next (effect n op) (origin (effects more ops) x y) (cell_at (drawn next ops) x y)
     (λ a b u v. comes-op n op p a b (rw (← wide) u) (rw (← high) v))
-    (Lies-origin next.width next.height (effects more ops) x y (effects-fit next.width next.height more ops fit_next) across_next down_next)
+    (Lies-origin next.width next.height (effects more ops) x y (effects-fit next.width next.height more ops fit_next)
+    across_next down_next)
     (comes-ops more ops next x y fit_next across_next down_next)
 
 -- and after all of them: going back through the later presents, and then through the first
-comes-joined : {A : Type 0} (d : A) (g next : Grid A) (es : List Effect) (o : Origin) (v : A) → ((x y : ℕ) → x < next.width → y < next.height → Comes d g (origin es x y) (value_at d next x y))
+comes-joined : {A : Type 0} (d : A) (g next : Grid A) (es : List Effect) (o : Origin) (v : A)
+    → ((x y : ℕ) → x < next.width → y < next.height → Comes d g (origin es x y) (value_at d next x y))
     → Lies next.width next.height o → Comes d next o v → Comes d g (back o (origin es)) v
 comes-joined d g next es fresh v step l c = tt
 comes-joined d g next es (kept x y) v step l c = at_if d g (origin es x y) v _ c (step x y l.0 l.1)
 
-comes-presents : (n : ℕ) (ps : List (List Op)) (p : Grid Cell) (x y : ℕ) → presents_fit p.width p.height ps ≡ true → x < p.width → y < p.height
+comes-presents : (n : ℕ) (ps : List (List Op)) (p : Grid Cell) (x y : ℕ) → presents_fit p.width p.height ps ≡ true
+    → x < p.width → y < p.height
     → Comes (plain 0) p (origin (flat_map (λ es. es) (each_effects n ps)) x y) (cell_at (fold drawn p ps) x y)
 comes-presents n [] p x y fit across down = refl
 comes-presents n (ops ∷ ps) p x y fit across down =
@@ -127,10 +132,12 @@ comes-presents n (ops ∷ ps) p x y fit across down =
     let fit_next : presents_fit next.width next.height ps ≡ true = rw (wide, high) both.1 in
     let across_next : x < next.width = rw wide across in
     let down_next : y < next.height = rw high down in
-    subst (λ (o : Origin). Comes (plain 0) p o (cell_at (fold drawn next ps) x y)) (sym (origin-append (effects n ops) rest x y))
+    subst (λ (o : Origin). Comes (plain 0) p o (cell_at (fold drawn next ps) x y))
+    (sym (origin-append (effects n ops) rest x y))
     (comes-joined (plain 0) p next (effects n ops) (origin rest x y) (cell_at (fold drawn next ps) x y)
     (λ a b u v. comes-ops n ops p a b both.0 (rw (← wide) u) (rw (← high) v))
-    (Lies-origin next.width next.height rest x y (each-fit next.width next.height more ps fit_next) across_next down_next)
+    (Lies-origin next.width next.height rest x y (each-fit next.width next.height more ps fit_next) across_next
+    down_next)
     (comes-presents more ps next x y fit_next across_next down_next))
 
 -- the moves alone take each point that was kept to its place
@@ -146,7 +153,8 @@ comes-over : (s : Grid ℕ) (b : Bool) (x y : ℕ) → Comes 0 s (cond b fresh (
 comes-over s true x y = tt
 comes-over s false x y = refl
 
-comes-moves : (es : List Effect) (s : Grid ℕ) (x y : ℕ) → list_all (effect_fits s.width s.height) es ≡ true → x < s.width → y < s.height
+comes-moves : (es : List Effect) (s : Grid ℕ) (x y : ℕ) → list_all (effect_fits s.width s.height) es ≡ true
+    → x < s.width → y < s.height
     → Comes 0 s (origin es x y) (value_at 0 (all_moved s (moves_in es)) x y)
 comes-moves [] s x y fit across down = refl
 comes-moves (over r ∷ es) s x y fit across down =
@@ -158,10 +166,12 @@ comes-moves (shifted m ∷ es) s x y fit across down =
     (Lies-origin s.width s.height es x y later across down) (comes-moves es (moved s m) x y later across down)
 
 -- what is moved and what is seen come from one place
-value_at-seen : (p : Grid Cell) (x y : ℕ) → x < p.width → y < p.height → value_at 0 (seen p) x y ≡ seen_cell (cell_at p x y)
+value_at-seen : (p : Grid Cell) (x y : ℕ) → x < p.width → y < p.height → value_at 0 (seen p) x y
+    ≡ seen_cell (cell_at p x y)
 value_at-seen p x y across down = value_at-grid 0 p.width p.height (λ a b. seen_cell (cell_at p a b)) x y across down
 
-same_place : (p : Grid Cell) (o : Origin) (v : ℕ) (c : Cell) → is_touched (λ a b. false) o ≡ false → Lies p.width p.height o → Comes 0 (seen p) o v → Comes (plain 0) p o c → v ≡ seen_cell c
+same_place : (p : Grid Cell) (o : Origin) (v : ℕ) (c : Cell) → is_touched (λ a b. false) o ≡ false
+    → Lies p.width p.height o → Comes 0 (seen p) o v → Comes (plain 0) p o c → v ≡ seen_cell c
 same_place p fresh v c t l e f = absurd (let u : true ≡ false = t in cc)
 same_place p (kept x y) v c t l e f = e ∙ (value_at-seen p x y l.0 l.1 ∙ ap seen_cell (sym f))
 
@@ -173,7 +183,7 @@ choose : (b : Bool) (before after : ℕ) → (b ≡ false → before ≡ after) 
 choose true before after same = refl
 choose false before after same = same refl
 
-pub rebuilds : Rebuilds
+pub rebuilds : MovesAndDirtRebuild
 unfolding moves
 rebuilds p ps rects fit has_drawn =
     let q : Grid Cell = fold drawn p ps in
@@ -187,7 +197,8 @@ rebuilds p ps rects fit has_drawn =
     ap (λ n. grid n s.height f) wide
     ∙ (ap (λ n. grid p.width n f) high
     ∙ (grid_from_agree p.width p.height f shown (λ x y across down.
-    let at_q : value_at 0 (seen q) x y ≡ shown x y = value_at-seen q x y (rw (width-presents ps p) across) (rw (height-presents ps p) down) in
+    let at_q : value_at 0 (seen q) x y ≡ shown x y =
+    value_at-seen q x y (rw (width-presents ps p) across) (rw (height-presents ps p) down) in
     choose (any_has rects x y) (value_at 0 s x y) (value_at 0 (seen q) x y) (λ out.
     same_place p (origin es x y) (value_at 0 s x y) (cell_at q x y)
     (untouched_unless (drawn_afresh es x y) (any_has rects x y) (has_drawn x y across down) out)

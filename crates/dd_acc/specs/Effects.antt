@@ -1,9 +1,9 @@
 -- What operations do to a point of the surface, and where a point comes from, followed backward.
-use Rattle.std.specs.Prelude.{◌≡◌, ℕ, zero, ◌+◌, ◌*◌, ◌<◌, length, Bool, true, false, ◌||◌, nat_lt, if◌then◌else◌, List, [], ◌∷◌, ◌++◌, fold}
+use Rattle.std.specs.Prelude.{◌≡◌, ℕ, ◌+◌, ◌*◌, ◌<◌, length, Bool, true, false, ◌||◌, nat_lt, if◌then◌else◌, List, [], ◌∷◌, ◌++◌, fold}
 use Rattle.std.specs.List.{flat_map, list_all, list_any}
 use Rattle.dd_geom.specs.declared.rect.Rect.{Rect}
 use Rattle.dd_geom.specs.declared.rect.Move.{Move}
-use Rattle.dd_geom.specs.Rect.{has, is_move_inside, source_x, source_y}
+use Rattle.dd_geom.specs.Rect.{has, source_x, source_y}
 use Rattle.dd_geom.specs.Grid.{Grid, grid}
 use Rattle.dd_bits.specs.Area.{is_in, nowhere, with_rect, moved_over}
 use Rattle.dd_coal.specs.Power.{power, coalesced}
@@ -138,13 +138,17 @@ any_reaches presents x y = list_any (λ ops. list_any (λ op. has (reach op) x y
 
 -- What is touched after two lists of effects is what the second touches from what the first touched.
 abbrev pub TouchedComposes : Type 0
-TouchedComposes = (area : ℕ → ℕ → Bool) (a b : List Effect) (x y : ℕ) → touched (touched area a) b x y ≡ touched area (a ++ b) x y
+TouchedComposes =
+    (area : ℕ → ℕ → Bool) (a b : List Effect) (x y : ℕ)
+    → touched (touched area a) b x y ≡ touched area (a ++ b) x y
 
 -- Each point of the surface that the effects of an interval together draw afresh is dirty. Where no present had to be
 -- rounded the dirty points are exactly these, and each of them lies in the rectangle or the destination of one of the
 -- operations.
 pub record IsHonest (w h : ℕ) (presents : List (List Op)) : Type 0 where
-  pub whole : (x y : ℕ) → x < w → y < h → drawn_afresh (all_effects presents) x y ≡ true → is_in (dirt w h presents) x y ≡ true
+  pub whole :
+      (x y : ℕ) → x < w → y < h → drawn_afresh (all_effects presents) x y ≡ true
+      → is_in (dirt w h presents) x y ≡ true
   pub exact : is_coalesced w h presents ≡ false → dirt w h presents ≡ grid w h (drawn_afresh (all_effects presents))
   pub reached :
       is_coalesced w h presents ≡ false → (x y : ℕ) → is_in (dirt w h presents) x y ≡ true

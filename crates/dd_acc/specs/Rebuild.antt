@@ -17,7 +17,8 @@ any_has rects x y = list_any (λ r. has r x y) rects
 
 -- the dirty points copied from the newer surface
 abbrev pub copied : Grid ℕ → List Rect → Grid ℕ → Grid ℕ
-copied s rects newer = grid s.width s.height (λ x y. if any_has rects x y then value_at 0 newer x y else value_at 0 s x y)
+copied s rects newer =
+    grid s.width s.height (λ x y. if any_has rects x y then value_at 0 newer x y else value_at 0 s x y)
 
 -- a surface after moves, one after another
 abbrev pub all_moved : Grid ℕ → List Move → Grid ℕ
@@ -34,8 +35,8 @@ HasDrawn w h presents rects =
 -- For each picture, and each list of presents that fit it: what is seen of the picture, with the moves of the
 -- presents drawn in order, and then any points copied among which are those that were drawn afresh, is what is seen
 -- after the presents.
-abbrev pub Rebuilds : Type 0
-Rebuilds =
+abbrev pub MovesAndDirtRebuild : Type 0
+MovesAndDirtRebuild =
     (p : Grid Cell) (presents : List (List Op)) (rects : List Rect) → presents_fit p.width p.height presents ≡ true
     → HasDrawn p.width p.height presents rects
     → rebuild (seen p) (moves presents) rects (seen (fold drawn p presents)) ≡ seen (fold drawn p presents)

@@ -3,7 +3,6 @@
 
 ghost use Rattle.std.specs.Prelude.{◌≡◌, ◌+◌, ◌-◌, ◌^◌, ◌<◌, ◌++◌, length, IsTrue, IfOk, OnOk};
 ghost use Rattle.dd_geom.specs.Rect.{IsSize, is_move_inside};
-ghost use Rattle.dd_bits.specs.Area.{IsArea};
 ghost use Rattle.dd_bits.specs.CanonicalList.{canonical_list};
 ghost use Rattle.dd_coal.specs.declared.coalescing.TheConstants.{MAX_RECTS};
 ghost use Rattle.dd_ops.specs.Operations.{fits, all_fit};
@@ -24,6 +23,9 @@ pub const MAX_MOVES: usize = 16;
 
 /// What is accumulated over an interval. Contracts see the set of its dirty points, its moves,
 /// whether a present had to be rounded, and the number of presents.
+///
+/// The dirty rectangles are always the canonical list of the set, and the set says of each point of
+/// its surface whether it is dirty.
 #[derive(Drop)]
 pub struct Acc<A: Area> {
     area: A,
@@ -35,15 +37,15 @@ pub struct Acc<A: Area> {
 
 impl<A: Area> Model for Acc<A> {
     ghost use Rattle.std.specs.Prelude.{◌≡◌};
-    ghost use Rattle.dd_bits.specs.Area.{IsArea};
     ghost use Rattle.dd_bits.specs.CanonicalList.{canonical_list};
+    ghost use Rattle.dd_acc.specs.Effects.{IsWhole};
     ghost use Rattle.dd_acc.specs.Interval.{Interval};
 
     ghost Value = { Interval };
 
     ghost view = { λ a. record { area = A.points a.area; moves = a.moves; coalesced = a.coalesced; frames = a.frames } };
 
-    ghost invariant = { λ a. (a.dirt ≡ canonical_list (A.points a.area)) × IsArea (A.points a.area) };
+    ghost invariant = { λ a. (a.dirt ≡ canonical_list (A.points a.area)) × IsWhole (A.points a.area) };
 }
 
 /// Adds a scroll: a move, or a draw of its destination.

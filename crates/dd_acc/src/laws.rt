@@ -2,7 +2,7 @@
 
 ghost use Rattle.dd_acc.specs.Effects.{TouchedComposes, HonestDirt};
 ghost use Rattle.dd_acc.specs.Interval.{Composes};
-ghost use Rattle.dd_acc.specs.Rebuild.{Rebuilds};
+ghost use Rattle.dd_acc.specs.Rebuild.{MovesAndDirtRebuild};
 
 /// What two lists of effects touch, one after the other, is what both together touch.
 pub fn touched_composes()
@@ -18,7 +18,7 @@ pub fn presents_compose()
 /// A surface is rebuilt from the one before by the moves, drawn in order, and then by copying any
 /// points among which are all that were drawn.
 pub fn moves_and_dirt_rebuild()
-    ensures { Rebuilds }
+    ensures { MovesAndDirtRebuild }
 {}
 
 /// Each point that is drawn afresh is dirty. Where no present had to be rounded no other point is, and

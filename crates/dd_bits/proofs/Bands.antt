@@ -8,9 +8,9 @@ use Rattle.dd_geom.specs.declared.rect.Rect.{Rect}
 use Rattle.dd_geom.specs.Grid.{Grid, row}
 use Rattle.dd_geom.proofs.GridLemmas.{value_at-right}
 use Rattle.dd_bits.specs.Area.{is_in}
-use Rattle.dd_bits.specs.CanonicalList.{row_runs, cell_at, alike, same_rows, starts_band, band_end, band_at, canonical_list}
+use Rattle.dd_bits.specs.CanonicalList.{row_runs, is_marked, alike, same_rows, starts_band, band_end, band_at, canonical_list}
 use Rattle.dd_bits.proofs.RunEnd.{if_true, if_false, IsEnd, run_end-IsEnd}
-use Rattle.dd_bits.proofs.RowRuns.{not_true, row_runs-row, cell_at-row, run_end_is, run_end-stop}
+use Rattle.dd_bits.proofs.RowRuns.{not_true, row_runs-row, is_marked-row, run_end_is, run_end-stop}
 
 alike-same : (a b : Bool) → alike a b ≡ true → a ≡ b
 alike-same true b e = sym e
@@ -89,16 +89,16 @@ pub record AreRows (g : Grid Bool) (y z : ℕ) (first other : List Bool) : Type 
 
 cells_are :
     (g : Grid Bool) (y x : ℕ) (cells : List Bool) → cells ≡ row g y → length cells ≡ g.width → y < g.height
-    → cell_at cells x ≡ is_in g x y
+    → is_marked cells x ≡ is_in g x y
 cells_are g y x cells e long l =
-    ap (λ cs. cell_at cs x) e ∙ cell_at-row g y x (sym (ap length e) ∙ long) l
+    ap (λ cs. is_marked cs x) e ∙ is_marked-row g y x (sym (ap length e) ∙ long) l
 
 pub same_rows-cells :
     (g : Grid Bool) (y z : ℕ) (first other : List Bool) → AreRows g y z first other → other ≡ first
     → same_rows g y z ≡ true
 same_rows-cells g y z first other d e = same_rows-from g y z (λ x l.
     sym (cells_are g y x first d.first_is d.first_long d.upper)
-    ∙ ap (λ cs. cell_at cs x) (sym e)
+    ∙ ap (λ cs. is_marked cs x) (sym e)
     ∙ cells_are g z x other d.other_is d.other_long d.lower)
 
 same_cells :
@@ -245,7 +245,7 @@ first_band g y e l s h d =
 -- one more band
 pub IsListed-more :
     (g : Grid Bool) (y e : ℕ) (cells : List Bool) (now next : List Rect)
-    → next ≡ now ++ row_runs (cell_at cells) (length cells) y e → IsListed g y now → e ≡ band_end g y
+    → next ≡ now ++ row_runs (is_marked cells) (length cells) y e → IsListed g y now → e ≡ band_end g y
     → cells ≡ row g y → length cells ≡ g.width → y < g.height → IsListed g e next
 IsListed-more g y e cells now next pushed d h row_is long l =
     let is : IsBandEnd g y e = band_end-is g y e l h in

@@ -9,7 +9,7 @@ use Rattle.dd_bits.proofs.RunEnd.{if_true, if_false, run_end-suc, run_end-here}
 use Rattle.dd_geom.specs.Grid.{Grid, row}
 use Rattle.dd_geom.proofs.GridLemmas.{value_at-place, value_at-right}
 use Rattle.dd_bits.specs.Area.{is_in}
-use Rattle.dd_bits.specs.CanonicalList.{run_end, starts_run, rect_from, run_at, row_runs, cell_at, HasNone, IsRun}
+use Rattle.dd_bits.specs.CanonicalList.{run_end, starts_run, rect_from, run_at, row_runs, is_marked, HasNone, IsRun}
 
 -- the runs that start at the columns k to k + n - 1
 abbrev pub runs_from : (ℕ → Bool) → ℕ → ℕ → ℕ → ℕ → ℕ → List Rect
@@ -171,9 +171,9 @@ row_runs-blank p w top bottom now none =
     IsDone-all p w top bottom 0 now now start none
 
 -- the cells of a row are the set along it
-pub cell_at-row :
-    (g : Grid Bool) (y x : ℕ) → length (row g y) ≡ g.width → y < g.height → cell_at (row g y) x ≡ is_in g x y
-cell_at-row g y x long down =
+pub is_marked-row :
+    (g : Grid Bool) (y x : ℕ) → length (row g y) ≡ g.width → y < g.height → is_marked (row g y) x ≡ is_in g x y
+is_marked-row g y x long down =
     elim (cases_lt x g.width) [
       | inl a ↦ get_or-take g.width _ x false a ∙ get_or-drop (y * g.width) g.cells x false
           ∙ sym (value_at-place false g.width g.height g.cells x y a down)
@@ -183,8 +183,8 @@ cell_at-row g y x long down =
 -- the runs of a row's cells are the set's runs in that row
 pub row_runs-row :
     (g : Grid Bool) (y top bottom : ℕ) (cells : List Bool) → cells ≡ row g y → length cells ≡ g.width → y < g.height
-    → row_runs (cell_at cells) (length cells) top bottom ≡ row_runs (λ x. is_in g x y) g.width top bottom
+    → row_runs (is_marked cells) (length cells) top bottom ≡ row_runs (λ x. is_in g x y) g.width top bottom
 row_runs-row g y top bottom cells e long down =
-    ap (λ n. row_runs (cell_at cells) n top bottom) long
-    ∙ ap (λ cs. row_runs (cell_at cs) g.width top bottom) e
-    ∙ ap (λ p. row_runs p g.width top bottom) (fun_ext (λ x. cell_at-row g y x (sym (ap length e) ∙ long) down))
+    ap (λ n. row_runs (is_marked cells) n top bottom) long
+    ∙ ap (λ cs. row_runs (is_marked cs) g.width top bottom) e
+    ∙ ap (λ p. row_runs p g.width top bottom) (fun_ext (λ x. is_marked-row g y x (sym (ap length e) ∙ long) down))

@@ -1,5 +1,5 @@
--- The canonical list of a set of points: for each band of equal rows one rectangle for each maximal run of columns, sorted
--- by top, then left. (The y-x banded form in which X11 and pixman keep their regions.)
+-- The canonical list of a set of points: for each band of equal rows one rectangle for each maximal run of columns,
+-- sorted by top, then left. (The y-x banded form in which X11 and pixman keep their regions.)
 use Rattle.std.specs.Prelude.{◌≡◌, ℕ, zero, suc, ◌+◌, ◌-◌, ◌*◌, pos, List, [], ◌∷◌, Bool, ◌&&◌, not, nat_lt, if◌then◌else◌, IsTrue, All, count_by, length, ◌≢◌, ◌≤◌, ◌<◌, ◌<ℤ◌, ◌↔◌, ◌⊎◌, ⊤, true, false, slice_index_or}
 use Rattle.std.specs.List.{flat_map, range_with_len, list_all, Contains}
 use Rattle.dd_geom.specs.declared.rect.Rect.{Rect}
@@ -19,7 +19,8 @@ starts_run p x = p x && not (nat_lt 0 x && p (x - 1))
 abbrev pub rect_from : ℕ → ℕ → ℕ → ℕ → Rect
 rect_from left top right bottom = record { left = pos left; top = pos top; right = pos right; bottom = pos bottom }
 
--- the rectangle, of the rows from top to bottom - 1, of the run that starts at column x of a row of w columns, if one does
+-- the rectangle, of the rows from top to bottom - 1, of the run that starts at column x of a row of w columns, if one
+-- does
 abbrev pub run_at : (ℕ → Bool) → ℕ → ℕ → ℕ → ℕ → List Rect
 run_at p w top bottom x = if starts_run p x then rect_from x top (run_end p x (w - x)) bottom ∷ [] else []
 
@@ -49,9 +50,9 @@ band_at g y = if starts_band g y then row_runs (λ x. is_in g x y) g.width y (ba
 unfoldable pub canonical_list : Grid Bool → List Rect
 canonical_list g = flat_map (band_at g) (range_with_len 0 g.height)
 
--- the row that a list of cells is; past its end no column is marked
-abbrev pub cell_at : List Bool → ℕ → Bool
-cell_at cells x = slice_index_or cells x false
+-- whether a column of a row, a list of cells, is marked; none past its end is
+abbrev pub is_marked : List Bool → ℕ → Bool
+is_marked cells x = slice_index_or cells x false
 
 -- none of the columns from `from` to `to - 1` is so marked
 abbrev pub HasNone : (ℕ → Bool) → Bool → ℕ → ℕ → Type 0
@@ -88,7 +89,8 @@ pub record IsBand (g : Grid Bool) (top bottom : ℕ) : Type 0 where
 abbrev pub ListHas : Type 0
 ListHas =
     (g : Grid Bool) (left top right bottom : ℕ)
-    → Contains (canonical_list g) (rect_from left top right bottom) ↔ (IsMaximalRun g top left right × IsBand g top bottom)
+    → Contains (canonical_list g) (rect_from left top right bottom)
+    ↔ (IsMaximalRun g top left right × IsBand g top bottom)
 
 -- the first rectangle stands before the second: by top, then left
 abbrev pub StandsBefore : Rect → Rect → Type 0

@@ -1,7 +1,7 @@
 //! A set of points as a plane: one cell for each point of the surface, row by row.
 
 ghost use Rattle.std.specs.Prelude.{◌≡◌, ◌≤◌, ◌<◌, length};
-ghost use Rattle.dd_geom.specs.Grid.{row};
+ghost use Rattle.dd_geom.specs.Grid.{SameSize, row};
 
 use crate::area::Area;
 use crate::runs::push_runs;
@@ -87,8 +87,7 @@ impl Area for Plane {
         ensures succeeds { IsOk result }
         ensures ok { OnOk result (self.new ≡ with_rect self.old r) }
         ensures err { OnErr result (self.new ≡ self.old) }
-        ensures width { self.new.width ≡ self.old.width }
-        ensures height { self.new.height ≡ self.old.height }
+        ensures size { SameSize self.old self.new }
     {
         let width = self.width as usize;
         let height = self.height as usize;
@@ -102,8 +101,7 @@ impl Area for Plane {
         ensures succeeds { IsOk result }
         ensures ok { OnOk result (self.new ≡ moved_over self.old m) }
         ensures err { OnErr result (self.new ≡ self.old) }
-        ensures width { self.new.width ≡ self.old.width }
-        ensures height { self.new.height ≡ self.old.height }
+        ensures size { SameSize self.old self.new }
     {
         let width = self.width as usize;
         let height = self.height as usize;
@@ -117,8 +115,7 @@ impl Area for Plane {
         ensures succeeds { IsOk result }
         ensures ok { OnOk result (self.new ≡ tiles t self.old) }
         ensures err { OnErr result (self.new ≡ self.old) }
-        ensures width { self.new.width ≡ self.old.width }
-        ensures height { self.new.height ≡ self.old.height }
+        ensures size { SameSize self.old self.new }
     {
         let width = self.width as usize;
         let height = self.height as usize;
@@ -129,7 +126,9 @@ impl Area for Plane {
     }
 
     fn has(&self, x: u32, y: u32) -> bool {
-        self.cells[y as usize * self.width as usize + x as usize]
+        x < self.width
+            && y < self.height
+            && self.cells[y as usize * self.width as usize + x as usize]
     }
 
     /// Takes the list's memory from the plane's own allocator.

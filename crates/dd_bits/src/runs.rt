@@ -2,7 +2,7 @@
 
 ghost use Rattle.std.specs.Prelude.{◌≡◌, ◌≤◌, ◌<◌, ◌++◌, Bool, true, false, length, OnOk, IfSome, IfNone};
 ghost use Rattle.std.specs.Bool.{OnTrue};
-ghost use Rattle.dd_bits.specs.CanonicalList.{rect_from, row_runs, cell_at, HasNone, IsRun};
+ghost use Rattle.dd_bits.specs.CanonicalList.{rect_from, row_runs, is_marked, HasNone, IsRun};
 
 use dd_geom::{MAX_SIDE, Rect};
 use std::alloc::AllocError;
@@ -38,8 +38,8 @@ fn find(row: &[bool], from: usize, marked: bool) -> usize
     requires { from ≤ length row.now }
     ensures after { from ≤ result }
     ensures within { result ≤ length row.now }
-    ensures before { HasNone (cell_at row.now) marked from result }
-    ensures found { result < length row.now → cell_at row.now result ≡ marked }
+    ensures before { HasNone (is_marked row.now) marked from result }
+    ensures found { result < length row.now → is_marked row.now result ≡ marked }
 {
     for x in from..row.len() {
         if row[x] == marked {
@@ -52,9 +52,9 @@ fn find(row: &[bool], from: usize, marked: bool) -> usize
 /// The first run that begins at or after `from`.
 fn next_run(row: &[bool], from: usize) -> Option<Run>
     requires { from ≤ length row.now }
-    ensures none { IfNone result (HasNone (cell_at row.now) true from (length row.now)) }
-    ensures first { IfSome result (λ run. HasNone (cell_at row.now) true from run.left) }
-    ensures run { IfSome result (λ run. IsRun (cell_at row.now) run.left run.right) }
+    ensures none { IfNone result (HasNone (is_marked row.now) true from (length row.now)) }
+    ensures first { IfSome result (λ run. HasNone (is_marked row.now) true from run.left) }
+    ensures run { IfSome result (λ run. IsRun (is_marked row.now) run.left run.right) }
     ensures from { IfSome result (λ run. from ≤ run.left) }
     ensures within { IfSome result (λ run. run.right ≤ length row.now) }
 {
@@ -69,7 +69,7 @@ fn next_run(row: &[bool], from: usize) -> Option<Run>
 /// Whether no column of the row is marked. It looks at each cell without a branch, so that a blank
 /// row costs little.
 fn is_blank(row: &[bool]) -> bool
-    ensures { OnTrue result (HasNone (cell_at row.now) true 0 (length row.now)) }
+    ensures { OnTrue result (HasNone (is_marked row.now) true 0 (length row.now)) }
 {
     let mut some = false;
     for cell in row {
@@ -85,7 +85,7 @@ pub fn push_runs(out: &mut Vec<Rect>, row: &[bool], top: u32, bottom: u32) -> Re
     requires top { top < MAX_SIDE }
     requires bottom { bottom ≤ MAX_SIDE }
     ensures { OnOk result
-        (out.new.items ≡ out.old.items ++ row_runs (cell_at row.now) (length row.now) top bottom) }
+        (out.new.items ≡ out.old.items ++ row_runs (is_marked row.now) (length row.now) top bottom) }
 {
     if is_blank(row) {
         return Ok(());

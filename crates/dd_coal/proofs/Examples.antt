@@ -1,10 +1,17 @@
--- Small sets, and the least power of each.
+-- The two limits, and small sets with the least power of each.
 use Rattle.std.proofs.Common.{◌≡◌, ℕ, ◌==◌, ◌%◌, ◌+◌, ◌&&◌, nat_lt, Bool, [], ◌∷◌, length, refl}
 use Rattle.dd_geom.specs.Grid.{Grid, grid}
 use Rattle.dd_bits.specs.Area.{nowhere}
 use Rattle.dd_bits.specs.CanonicalList.{rect_from, run_end, same_rows, canonical_list}
 use Rattle.dd_bits.specs.Tiles.{tiles}
+use Rattle.dd_coal.specs.declared.coalescing.TheConstants.{MAX_RECTS, MAX_POWER}
 use Rattle.dd_coal.specs.Power.{least_power_from, power, coalesced}
+
+max_rects : MAX_RECTS ≡ 64
+max_rects = refl
+
+max_power : MAX_POWER ≡ 13
+max_power = refl
 
 -- every second of 130 points, up to a column
 abbrev every_second : ℕ → Grid Bool

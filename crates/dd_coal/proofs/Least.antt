@@ -24,9 +24,11 @@ record IsFound (g : Grid Bool) (j n r : ℕ) : Type 0 where
   end : (r ≡ j + n) ⊎ (is_short (rounded_to r g) ≡ true)
 
 found_here : (g : Grid Bool) (j n : ℕ) → (j ≡ j + n) ⊎ (is_short (rounded_to j g) ≡ true) → IsFound g j n j
-found_here g j n end = record { from = omega arith; bound = omega arith; none = λ i a b. absurd (omega arith); end = end }
+found_here g j n end =
+    record { from = omega arith; bound = omega arith; none = λ i a b. absurd (omega arith); end = end }
 
-found_later : (g : Grid Bool) (j n r : ℕ) → is_short (rounded_to j g) ≡ false → IsFound g (j + 1) n r → IsFound g j (suc n) r
+found_later : (g : Grid Bool) (j n r : ℕ) → is_short (rounded_to j g) ≡ false → IsFound g (j + 1) n r
+    → IsFound g j (suc n) r
 found_later g j n r short f = record {
   from = omega (arith, f.from);
   bound = omega (arith, f.bound);
@@ -44,7 +46,8 @@ found : (g : Grid Bool) (n j : ℕ) → IsFound g j n (least_power_from g j n)
 unfolding least_power_from
 found g zero j = found_here g j 0 (inl (omega arith))
 found g (suc n) j =
-    let P : Bool → Type 0 = λ b. is_short (rounded_to j g) ≡ b → IsFound g j (suc n) (if b then j else least_power_from g (j + 1) n) in
+    let P : Bool → Type 0 = λ b. is_short (rounded_to j g) ≡ b
+    → IsFound g j (suc n) (if b then j else least_power_from g (j + 1) n) in
     let cases : (b : Bool) → P b = λ b. elim b as P [
       | true ↦ λ e. found_here g j (suc n) (inr e)
       | false ↦ λ e. found_later g j n _ e (found g n (j + 1))
@@ -52,7 +55,8 @@ found g (suc n) j =
     cases (is_short (rounded_to j g)) refl
 
 -- it is the one power that is enough, or the last, with none before it
-unique : (g : Grid Bool) (n r s : ℕ) → IsFound g 0 n r → s ≤ n → NoneShort g 0 s → (s ≡ n) ⊎ (is_short (rounded_to s g) ≡ true) → r ≡ s
+unique : (g : Grid Bool) (n r s : ℕ) → IsFound g 0 n r → s ≤ n → NoneShort g 0 s
+    → (s ≡ n) ⊎ (is_short (rounded_to s g) ≡ true) → r ≡ s
 unique g n r s f le none end = ⊎_elim
     (λ (a : r < s). ⊎_elim
     (λ (e : r ≡ 0 + n). absurd (omega (arith, a, e, le)))
@@ -67,13 +71,16 @@ unique g n r s f le none end = ⊎_elim
     (cases_lt s r))
     (cases_lt r s)
 
-pub power_is : (g : Grid Bool) (s : ℕ) → s ≤ MAX_POWER → NoneShort g 0 s → (s ≡ MAX_POWER) ⊎ (is_short (rounded_to s g) ≡ true) → power g ≡ s
+pub power_is : (g : Grid Bool) (s : ℕ) → s ≤ MAX_POWER → NoneShort g 0 s
+    → (s ≡ MAX_POWER) ⊎ (is_short (rounded_to s g) ≡ true) → power g ≡ s
 unfolding power
 power_is g s le none end = unique g MAX_POWER (least_power_from g 0 MAX_POWER) s (found g MAX_POWER 0) le none end
 
 -- a tile of the greatest side covers every surface
-one_value : (g : Grid Bool) → IsArea g → (x y : ℕ) → x < g.width → y < g.height → is_in (rounded_to MAX_POWER g) x y ≡ is_in (rounded_to MAX_POWER g) 0 0
-one_value g area x y a b = tiles_all (2 ^ MAX_POWER) g x y 0 0 area.size.width area.size.height a b area.size.wide area.size.high
+one_value : (g : Grid Bool) → IsArea g → (x y : ℕ) → x < g.width → y < g.height → is_in (rounded_to MAX_POWER g) x y
+    ≡ is_in (rounded_to MAX_POWER g) 0 0
+one_value g area x y a b =
+    tiles_all (2 ^ MAX_POWER) g x y 0 0 area.size.width area.size.height a b area.size.wide area.size.high
 
 pub short_at_last : (g : Grid Bool) → IsArea g → is_short (rounded_to MAX_POWER g) ≡ true
 short_at_last g area =
@@ -111,17 +118,20 @@ first_rounded g whole = sym (tiles_one g whole)
 double : (j : ℕ) → 2 ^ (j + 1) ≡ 2 ^ j * 2
 double j = ap (λ n. 2 ^ n) (add-one j) ∙ pow-suc 2 j
 
-pub next_rounded : (g area : Grid Bool) (j : ℕ) → area ≡ rounded_to j g → tiles (2 ^ (j + 1)) area ≡ rounded_to (j + 1) g
+pub next_rounded : (g area : Grid Bool) (j : ℕ) → area ≡ rounded_to j g → tiles (2 ^ (j + 1)) area
+    ≡ rounded_to (j + 1) g
 next_rounded g area j e =
     ap (tiles (2 ^ (j + 1))) e
     ∙ (ap (λ n. tiles n (tiles (2 ^ j) g)) (double j)
     ∙ (tiles-tiles g (2 ^ j) 2 (some_power j) (omega arith)
     ∙ ap (λ n. tiles n g) (sym (double j))))
 
-pub none_more : (g area : Grid Bool) (j : ℕ) → area ≡ rounded_to j g → MAX_RECTS < length (canonical_list area) → NoneShort g 0 j → NoneShort g 0 (j + 1)
+pub none_more : (g area : Grid Bool) (j : ℕ) → area ≡ rounded_to j g → MAX_RECTS < length (canonical_list area)
+    → NoneShort g 0 j → NoneShort g 0 (j + 1)
 none_more g area j e long none i a b = ⊎_elim
     (λ (before : i < j). none i a before)
-    (λ (here : j ≤ i). ap (λ k. is_short (rounded_to k g)) (omega (arith, b)) ∙ (ap is_short (sym e) ∙ lt-leb _ MAX_RECTS long))
+    (λ (here : j ≤ i). ap (λ k. is_short (rounded_to k g)) (omega (arith, b))
+    ∙ (ap is_short (sym e) ∙ lt-leb _ MAX_RECTS long))
     (cases_lt i j)
 
 -- what the search ends at is the least power, and the list is short
@@ -129,7 +139,8 @@ pub record IsEnded (g area : Grid Bool) (p : ℕ) : Type 0 where
   pub power : power g ≡ p
   pub few : length (canonical_list area) ≤ MAX_RECTS
 
-short_from : (g area : Grid Bool) (p : ℕ) → area ≡ rounded_to p g → is_short (rounded_to p g) ≡ true → length (canonical_list area) ≤ MAX_RECTS
+short_from : (g area : Grid Bool) (p : ℕ) → area ≡ rounded_to p g → is_short (rounded_to p g) ≡ true
+    → length (canonical_list area) ≤ MAX_RECTS
 short_from g area p e t = leb-true _ MAX_RECTS (ap is_short e ∙ t)
 
 pub ended :

@@ -1,4 +1,3 @@
 pub mod Examples
 pub mod Least
-pub mod Marked
 pub mod Short

@@ -1,7 +1,6 @@
 //! A set of points rounded until its list is short enough.
 
-ghost use Rattle.std.specs.Prelude.{◌≡◌, ◌≤◌, length, IsTrue, IfOk};
-ghost use Rattle.dd_bits.specs.Area.{IsArea};
+ghost use Rattle.std.specs.Prelude.{◌≡◌, ◌≤◌, length, nat_lt, IfOk};
 ghost use Rattle.dd_bits.specs.CanonicalList.{canonical_list};
 ghost use Rattle.dd_coal.specs.Power.{power, rounded_to};
 
@@ -23,10 +22,16 @@ pub struct Coalesced<A: Area> {
     pub power: u32,
 }
 
+/// Whether there are more rectangles than a list may have.
+fn are_too_many(rects: &Rects) -> bool
+    ensures { result ≡ nat_lt MAX_RECTS (length rects.now) }
+{
+    rects.as_slice().len() > MAX_RECTS
+}
+
 /// Rounds a set by the least power, from 0, at which its list has at most 64 rectangles. The set is
 /// given up where memory is wanting.
 pub fn coalesce<A: Area>(area: A) -> Result<Coalesced<A>, AllocError>
-    requires { IsArea (A.points area) }
     ensures power { IfOk result (λ c. c.power ≡ power (A.points area)) }
     ensures area { IfOk result (λ c. A.points c.area ≡ rounded_to (power (A.points area)) (A.points area)) }
     ensures rects { IfOk result (λ c. c.rects ≡ canonical_list (rounded_to (power (A.points area)) (A.points area))) }
@@ -35,7 +40,7 @@ pub fn coalesce<A: Area>(area: A) -> Result<Coalesced<A>, AllocError>
     let mut area = area;
     let mut power = 0;
     let mut rects = area.list()?;
-    while power < MAX_POWER && rects.as_slice().len() > MAX_RECTS {
+    while power < MAX_POWER && are_too_many(&rects) {
         power += 1;
         area.tiles(2u32.pow(power))?;
         rects = area.list()?;

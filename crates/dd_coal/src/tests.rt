@@ -1,8 +1,6 @@
 //! Points of a chessboard, with as many rectangles as a list may have, with more, and with none.
 
-ghost use Rattle.std.specs.Prelude.{IfOk};
 ghost use Rattle.dd_geom.specs.Rect.{IsSize};
-ghost use Rattle.dd_bits.specs.Area.{IsArea};
 
 use crate::{Coalesced, MAX_RECTS, coalesce, least_power, rounding_is_near, rounding_keeps_points};
 use dd_bits::{Area, Plane};
@@ -36,7 +34,6 @@ fn chessboard<A: Area>(
     points: u32,
 ) -> Result<A, AllocError>
     requires { IsSize w h }
-    ensures { IfOk result (λ a. IsArea (A.points a)) }
 {
     let mut area = A::empty(alloc, w, h)?;
     for k in 0..points {
@@ -68,9 +65,7 @@ fn sixty_four_points_stay(rt: HostRuntime) -> Result<(), Fail> {
 }
 
 /// The points become this one rectangle, by this power.
-fn one_rect(rt: &impl Abort, area: Plane, power: u32, rect: Rect) -> Result<(), AllocError>
-    requires { IsArea area }
-{
+fn one_rect(rt: &impl Abort, area: Plane, power: u32, rect: Rect) -> Result<(), AllocError> {
     let rounded = coalesce(area)?;
     assert_eq!(rt; rounded.power, power);
     assert_eq!(rt; rounded.rects.as_slice(), [rect].as_slice());

@@ -1,9 +1,23 @@
--- A small grid, scrolled over itself by the definition.
+-- The numbers of the limits and of the metadata, and a small grid, scrolled over itself by the definition.
 use Rattle.std.proofs.Common.{◌≡◌, ℕ, true, false, pos, negsuc, [], ◌∷◌, refl}
 use Rattle.dd_geom.specs.declared.rect.Rect.{Rect}
 use Rattle.dd_geom.specs.declared.rect.Move.{Move}
+use Rattle.dd_geom.specs.declared.rect.TheConstants.{MAX_SIDE, MAX_PIXELS, RECT_BYTES, MOVE_BYTES}
 use Rattle.dd_geom.specs.Rect.{is_move_inside, points}
 use Rattle.dd_geom.specs.Grid.{Grid, rows, scrolled}
+
+-- the limits of a mode, and the bytes of a rectangle and of a move
+max_side : MAX_SIDE ≡ 8192
+max_side = refl
+
+max_pixels : MAX_PIXELS ≡ 16777216
+max_pixels = refl
+
+rect_bytes : RECT_BYTES ≡ 16
+rect_bytes = refl
+
+move_bytes : MOVE_BYTES ≡ 24
+move_bytes = refl
 
 abbrev rect : ℕ → ℕ → ℕ → ℕ → Rect
 rect l t r b = record { left = pos l; top = pos t; right = pos r; bottom = pos b }

@@ -87,7 +87,8 @@ module _ {A : Type 0} where
       (d : A) (g : Grid A) → length g.cells ≡ g.width * g.height
       → g ≡ grid g.width g.height (value_at d g)
   grid-value_at d g long =
-      grid_from_places d g.width g.height (value_at d g) g.cells long (λ k e. sym (value_at-cell d g.width g.height g.cells k e))
+      grid_from_places d g.width g.height (value_at d g) g.cells long
+      (λ k e. sym (value_at-cell d g.width g.height g.cells k e))
 
   -- two grids of one size with the same values are one
   pub same_grids :
@@ -108,7 +109,8 @@ module _ {A : Type 0} where
   row-grid w h f y down =
       let cs : List A = (grid w h f).cells in
       let fits : y * w + w ≤ w * h = row_fits_turned y w w h down (omega arith) in
-      let long : length (take w (drop (y * w) cs)) ≡ w = omega (arith, length-take w (drop (y * w) cs), length-drop (y * w) cs, length-cells w h f, fits) in
+      let long : length (take w (drop (y * w) cs)) ≡ w =
+      omega (arith, length-take w (drop (y * w) cs), length-drop (y * w) cs, length-cells w h f, fits) in
       same_lists _ _ (long ∙ sym (length-map-range_with_len (λ x. f x y) 0 w)) (λ k d e.
       let across : k < w = omega (arith, long) in
       get_or-take w (drop (y * w) cs) k d across

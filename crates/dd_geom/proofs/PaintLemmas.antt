@@ -147,7 +147,8 @@ module _ {A : Type 0} where
       → record { width = w; height = h; cells = new }
       ≡ grid w h (λ x y. cond (between s x y) (f x y) (value_at d (record { width = w; height = h; cells = old }) x y))
   grid_from_drawn d w h s f old new long_old long_new drawn =
-      let g = λ (x y : ℕ). cond (between s x y) (f x y) (value_at d (record { width = w; height = h; cells = old }) x y) in
+      let g =
+      λ (x y : ℕ). cond (between s x y) (f x y) (value_at d (record { width = w; height = h; cells = old }) x y) in
       grid_from_places d w h g new long_new (λ k e.
       drawn k d (omega arith)
       ∙ ap (cond (between s (k % w) (k / w)) (f (k % w) (k / w))) (sym (value_at-cell d w h old k e)))

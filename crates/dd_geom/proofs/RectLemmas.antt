@@ -22,9 +22,12 @@ nat_lt-place (negsuc n) x = grind arith
 
 pub has_is_covers : HasIsCovers
 has_is_covers r x y =
-    ap (λ b. b && nat_lt x (place r.right) && nat_le (place r.top) y && nat_lt y (place r.bottom)) (nat_le-place r.left x)
-    ∙ (ap (λ b. int_le r.left (pos x) && b && nat_le (place r.top) y && nat_lt y (place r.bottom)) (nat_lt-place r.right x)
-    ∙ (ap (λ b. int_le r.left (pos x) && int_lt (pos x) r.right && b && nat_lt y (place r.bottom)) (nat_le-place r.top y)
+    ap (λ b. b && nat_lt x (place r.right) && nat_le (place r.top) y && nat_lt y (place r.bottom))
+    (nat_le-place r.left x)
+    ∙ (ap (λ b. int_le r.left (pos x) && b && nat_le (place r.top) y && nat_lt y (place r.bottom))
+    (nat_lt-place r.right x)
+    ∙ (ap (λ b. int_le r.left (pos x) && int_lt (pos x) r.right && b && nat_lt y (place r.bottom))
+    (nat_le-place r.top y)
     ∙ ap (λ b. int_le r.left (pos x) && int_lt (pos x) r.right && int_le r.top (pos y) && b) (nat_lt-place r.bottom y)))
 
 -- at or past the later of two is at or past both; before the earlier of two is before both
@@ -40,18 +43,28 @@ and_swap true false true q = refl
 and_swap true false false q = refl
 and_swap false p b q = refl
 
-regroup : (a b c d p q r s : Bool) → ((a && p) && (b && q) && (c && r) && (d && s)) ≡ ((a && b && c && d) && (p && q && r && s))
+regroup : (a b c d p q r s : Bool) → ((a && p) && (b && q) && (c && r) && (d && s))
+    ≡ ((a && b && c && d) && (p && q && r && s))
 regroup a b c d p q r s =
     ap (λ t. t && (c && r) && (d && s)) (and_swap a p b q)
     ∙ (ap (λ t. t && (d && s)) (and_swap (a && b) (p && q) c r) ∙ and_swap (a && b && c) (p && q && r) d s)
 
 pub CoversBoth-meet_of : (a b : Rect) → CoversBoth (meet_of a b) a b
 CoversBoth-meet_of a b x y =
-    ap (λ t. t && int_lt x (int_min a.right b.right) && int_le (int_max a.top b.top) y && int_lt y (int_min a.bottom b.bottom)) (int_le-max a.left b.left x)
-    ∙ (ap (λ t. (int_le a.left x && int_le b.left x) && t && int_le (int_max a.top b.top) y && int_lt y (int_min a.bottom b.bottom)) (int_lt-min a.right b.right x)
-    ∙ (ap (λ t. (int_le a.left x && int_le b.left x) && (int_lt x a.right && int_lt x b.right) && t && int_lt y (int_min a.bottom b.bottom)) (int_le-max a.top b.top y)
-    ∙ (ap (λ t. (int_le a.left x && int_le b.left x) && (int_lt x a.right && int_lt x b.right) && (int_le a.top y && int_le b.top y) && t) (int_lt-min a.bottom b.bottom y)
-    ∙ regroup (int_le a.left x) (int_lt x a.right) (int_le a.top y) (int_lt y a.bottom) (int_le b.left x) (int_lt x b.right) (int_le b.top y) (int_lt y b.bottom))))
+    ap
+    (λ t. t && int_lt x (int_min a.right b.right) && int_le (int_max a.top b.top) y
+    && int_lt y (int_min a.bottom b.bottom)) (int_le-max a.left b.left x)
+    ∙ (ap
+    (λ t. (int_le a.left x && int_le b.left x) && t && int_le (int_max a.top b.top) y
+    && int_lt y (int_min a.bottom b.bottom)) (int_lt-min a.right b.right x)
+    ∙ (ap
+    (λ t. (int_le a.left x && int_le b.left x) && (int_lt x a.right && int_lt x b.right) && t
+    && int_lt y (int_min a.bottom b.bottom)) (int_le-max a.top b.top y)
+    ∙ (ap
+    (λ t. (int_le a.left x && int_le b.left x) && (int_lt x a.right && int_lt x b.right)
+    && (int_le a.top y && int_le b.top y) && t) (int_lt-min a.bottom b.bottom y)
+    ∙ regroup (int_le a.left x) (int_lt x a.right) (int_le a.top y) (int_lt y a.bottom) (int_le b.left x)
+    (int_lt x b.right) (int_le b.top y) (int_lt y b.bottom))))
 
 -- a rectangle whose sides leave no room covers nothing
 no_room : (from to x : ℤ) → int_lt from to ≡ false → (int_le from x && int_lt x to) ≡ false
@@ -69,7 +82,8 @@ covers_none r x y e =
     ]
 
 pub AreApart-meet_of :
-    (a b : Rect) → (int_lt (meet_of a b).left (meet_of a b).right && int_lt (meet_of a b).top (meet_of a b).bottom) ≡ false
+    (a b : Rect) → (int_lt (meet_of a b).left (meet_of a b).right && int_lt (meet_of a b).top (meet_of a b).bottom)
+    ≡ false
     → AreApart a b
 AreApart-meet_of a b e x y = sym (CoversBoth-meet_of a b x y) ∙ covers_none (meet_of a b) x y e
 

@@ -1,5 +1,5 @@
 -- One value for each point of a surface, row by row: pictures, surfaces and sets of points are grids.
-use Rattle.std.specs.Prelude.{ℕ, ◌+◌, ◌*◌, ◌/◌, ◌%◌, List, map, take, drop, slice_index_or, nat_lt, ◌&&◌, if◌then◌else◌}
+use Rattle.std.specs.Prelude.{◌≡◌, ℕ, ◌+◌, ◌*◌, ◌/◌, ◌%◌, List, map, take, drop, slice_index_or, nat_lt, ◌&&◌, if◌then◌else◌}
 use Rattle.std.specs.List.{range_with_len}
 use Rattle.dd_geom.specs.declared.rect.Move.{Move}
 use Rattle.dd_geom.specs.Rect.{has, source_x, source_y}
@@ -8,6 +8,11 @@ pub record Grid (A : Type 0) : Type 0 where
   pub width : ℕ
   pub height : ℕ
   pub cells : List A
+
+-- a grid keeps the width and the height of another
+pub record SameSize {A B : Type 0} (old : Grid A) (new : Grid B) : Type 0 where
+  pub width : new.width ≡ old.width
+  pub height : new.height ≡ old.height
 
 module _ {A : Type 0} where
   -- the grid of a function of the point

@@ -11,7 +11,7 @@ mod tests;
 pub use lists::{Moves, Rects};
 pub use painting::paint;
 pub use rect::{
-    MAX_PIXELS, MAX_SIDE, Move, Point, Rect, Sides, contains, has_is_covers, intersect,
-    move_inside, point_count, rect_inside, shift, sides_of,
+    MAX_PIXELS, MAX_SIDE, MOVE_BYTES, Move, Point, RECT_BYTES, Rect, Sides, contains,
+    has_is_covers, intersect, move_inside, point_count, rect_inside, shift, sides_of,
 };
 pub use scrolling::scroll;

@@ -10,6 +10,12 @@ pub const MAX_SIDE: u32 = 8192;
 /// The most pixels of a mode.
 pub const MAX_PIXELS: u32 = 16_777_216;
 
+/// The bytes of a rectangle among a frame's metadata (the API's RECT).
+pub const RECT_BYTES: u32 = 16;
+
+/// The bytes of a move among a frame's metadata (the API's DXGI_OUTDUPL_MOVE_RECT).
+pub const MOVE_BYTES: u32 = 24;
+
 /// A point: `x` to the right, `y` downward (the API's POINT).
 #[derive(Clone, Copy, Debug, Default, PartialEq, Eq, Hash)]
 pub struct Point {

@@ -1,10 +1,15 @@
--- Small pictures, drawn by the definitions.
+-- The number of colours, and small pictures, drawn by the definitions.
 use Rattle.std.proofs.Common.{◌≡◌, ℕ, true, false, pos, [], ◌∷◌, refl}
 use Rattle.dd_geom.specs.declared.rect.Rect.{Rect}
 use Rattle.dd_geom.specs.declared.rect.Move.{Move}
 use Rattle.dd_geom.specs.Grid.{Grid, rows}
+use Rattle.dd_grid.specs.declared.cell.TheConstants.{COLOURS}
 use Rattle.dd_grid.specs.Cell.{Cell, plain}
 use Rattle.dd_grid.specs.Drawing.{black, filled, blitted, covered, moved_cells, any_hidden, cell_at, seen, blank, with_colour, taken, moved}
+
+-- a colour has 24 bits
+colours : COLOURS ≡ 16777216
+colours = refl
 
 abbrev rect : ℕ → ℕ → ℕ → ℕ → Rect
 rect l t r b = record { left = pos l; top = pos t; right = pos r; bottom = pos b }

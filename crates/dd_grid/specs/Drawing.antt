@@ -1,23 +1,25 @@
 -- What each operation draws, point by point.
-use Rattle.std.specs.Prelude.{◌≡◌, ℕ, ◌+◌, ◌-◌, ◌*◌, ◌^◌, ◌<◌, Bool, false, ◌&&◌, ◌==◌, List, length, All, if◌then◌else◌}
+use Rattle.std.specs.Prelude.{◌≡◌, ℕ, ◌+◌, ◌-◌, ◌*◌, ◌<◌, Bool, false, ◌&&◌, ◌==◌, List, length, All, if◌then◌else◌}
 use Rattle.std.specs.List.{list_any}
 use Rattle.dd_geom.specs.declared.rect.Rect.{Rect}
 use Rattle.dd_geom.specs.declared.rect.Move.{Move}
 use Rattle.dd_geom.specs.declared.rect.Sides.{Sides}
 use Rattle.dd_geom.specs.Rect.{IsSize, has, place}
 use Rattle.dd_geom.specs.Grid.{Grid, grid, value_at, scrolled}
+use Rattle.dd_grid.specs.declared.cell.TheConstants.{COLOURS}
 use Rattle.dd_grid.specs.Cell.{Cell, plain, covered_cell, seen_cell}
 
--- a picture has a size that a surface may have, and a cell for each point
+-- a picture has a size that a surface may have, a cell for each point, and a colour in each cell
 pub record IsPicture (p : Grid Cell) : Type 0 where
   pub size : IsSize p.width p.height
   pub whole : length p.cells ≡ p.width * p.height
+  pub colours : All (λ c. c.colour < COLOURS) p.cells
 
--- a surface too, and each of its values is a colour
+-- a surface has such a size too, and a colour for each point
 pub record IsSurface (s : Grid ℕ) : Type 0 where
   pub size : IsSize s.width s.height
   pub whole : length s.cells ≡ s.width * s.height
-  pub colours : All (λ c. c < 2 ^ 24) s.cells
+  pub colours : All (λ c. c < COLOURS) s.cells
 
 -- the cell of a picture at a point
 abbrev pub cell_at : Grid Cell → ℕ → ℕ → Cell
@@ -33,7 +35,8 @@ filled p r c = grid p.width p.height (λ x y. if has r x y then plain c else cel
 
 -- colours for the points of a rectangle, row by row
 abbrev pub image : Rect → List ℕ → Grid ℕ
-image r colours = record { width = place r.right - place r.left; height = place r.bottom - place r.top; cells = colours }
+image r colours =
+    record { width = place r.right - place r.left; height = place r.bottom - place r.top; cells = colours }
 
 -- the place of a point between four sides, row by row
 abbrev pub place_in : Sides → ℕ → ℕ → ℕ
@@ -67,6 +70,10 @@ ShowsAll p = (x y : ℕ) → (cell_at p x y).hidden ≡ false
 -- what is seen of a picture
 abbrev pub seen : Grid Cell → Grid ℕ
 seen p = grid p.width p.height (λ x y. seen_cell (cell_at p x y))
+
+-- what is seen of a picture is a surface
+abbrev pub SeenIsSurface : Type 0
+SeenIsSurface = (p : Grid Cell) → IsPicture p → IsSurface (seen p)
 
 -- the colour of a surface at a point
 abbrev pub colour_at : Grid ℕ → ℕ → ℕ → ℕ

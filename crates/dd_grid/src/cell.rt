@@ -1,11 +1,14 @@
 //! One cell of a picture in 4 bytes: a colour, and whether it is hidden.
 
-ghost use Rattle.std.specs.Prelude.{◌≡◌, ◌^◌, ◌<◌};
+ghost use Rattle.std.specs.Prelude.{◌≡◌, ◌<◌};
 
 use std::marker::Model;
 
+/// One past the greatest colour: red, green and blue take 8 bits each, red uppermost.
+pub const COLOURS: u32 = 0x100_0000;
+
 /// The bit above the colours, set where the cell is hidden.
-const HIDDEN: u32 = 1 << 24;
+const HIDDEN: u32 = COLOURS;
 
 /// The colour in the low 24 bits, and above them the bit that hides it; no bit above that is set.
 #[derive(Clone, Copy, Debug)]
@@ -14,16 +17,17 @@ pub(crate) struct Pixel {
 }
 
 impl Model for Pixel {
-    ghost use Rattle.std.specs.Prelude.{◌+◌, ◌^◌, ◌%◌, ◌<◌, nat_le, if◌then◌else◌};
+    ghost use Rattle.std.specs.Prelude.{◌+◌, ◌*◌, ◌%◌, ◌<◌, nat_le, if◌then◌else◌};
+    ghost use Rattle.dd_grid.specs.declared.cell.TheConstants.{COLOURS};
     ghost use Rattle.dd_grid.specs.Cell.{Cell};
 
     ghost Value = { Cell };
 
-    ghost view = { λ p. record { colour = p.bits % 2 ^ 24; hidden = nat_le (2 ^ 24) p.bits } };
+    ghost view = { λ p. record { colour = p.bits % COLOURS; hidden = nat_le COLOURS p.bits } };
 
-    ghost invariant = { λ p. p.bits < 2 ^ 25 };
+    ghost invariant = { λ p. p.bits < 2 * COLOURS };
 
-    ghost inverse = { λ c. record { bits = if c.hidden then c.colour + 2 ^ 24 else c.colour } };
+    ghost inverse = { λ c. record { bits = if c.hidden then c.colour + COLOURS else c.colour } };
 
     ghost use Rattle.std.proofs.Common.{ap};
     ghost use Rattle.dd_grid.specs.PixelBits.{bits_from_parts};
@@ -36,7 +40,7 @@ impl Pixel {
 
     /// A plain cell of a colour.
     pub(crate) fn plain(colour: u32) -> Pixel
-        requires { colour < 2 ^ 24 }
+        requires { colour < COLOURS }
         ensures { result ≡ plain colour }
     {
         Pixel { bits: colour }
@@ -44,7 +48,7 @@ impl Pixel {
 
     /// A cell of a colour, plain or hidden.
     pub(crate) fn new(colour: u32, hidden: bool) -> Pixel
-        requires { colour < 2 ^ 24 }
+        requires { colour < COLOURS }
         ensures { result ≡ cell_of hidden colour }
     {
         let mark = if hidden { HIDDEN } else { 0 };
@@ -56,7 +60,7 @@ impl Pixel {
     /// The colour, shown or not.
     pub(crate) fn colour(self) -> u32
         ensures colour { result ≡ self.colour }
-        ensures small { result < 2 ^ 24 }
+        ensures small { result < COLOURS }
     {
         self.bits % HIDDEN
     }
@@ -70,7 +74,7 @@ impl Pixel {
     /// The colour that is shown: black where the cell is hidden.
     pub(crate) fn seen(self) -> u32
         ensures colour { result ≡ seen_cell self }
-        ensures small { result < 2 ^ 24 }
+        ensures small { result < COLOURS }
     {
         if self.is_hidden() { 0 } else { self.colour() }
     }

@@ -1,7 +1,8 @@
 //! An image written between four sides of a picture's cells, row by row.
 
-ghost use Rattle.std.specs.Prelude.{◌≡◌, ℕ, ◌+◌, ◌-◌, ◌*◌, ◌/◌, ◌%◌, ◌^◌, ◌<◌, length, map, All, slice_index_or, if◌then◌else◌};
+ghost use Rattle.std.specs.Prelude.{◌≡◌, ℕ, ◌+◌, ◌-◌, ◌*◌, ◌/◌, ◌%◌, ◌<◌, length, map, All, slice_index_or, if◌then◌else◌};
 ghost use Rattle.dd_geom.specs.Rect.{AreInside, between};
+ghost use Rattle.dd_grid.specs.declared.cell.TheConstants.{COLOURS};
 ghost use Rattle.dd_grid.specs.Cell.{Cell, cell_of};
 ghost use Rattle.dd_grid.specs.Drawing.{place_in};
 
@@ -11,7 +12,7 @@ use dd_geom::Sides;
 /// Writes a cell of each colour.
 fn write_run(to: &mut [Pixel], colours: &[u32], hidden: bool)
     requires len { length to.old ≡ length colours.now }
-    requires colours { All (λ c. c < 2 ^ 24) colours.now }
+    requires colours { All (λ c. c < COLOURS) colours.now }
     ensures { to.new ≡ map (cell_of hidden) colours.now }
 {
     for x in 0..to.len() {
@@ -32,7 +33,7 @@ pub(crate) fn write_image(
     requires inside { AreInside sides width height }
     requires cells { length cells.old ≡ width * height }
     requires count { length colours.now ≡ (sides.right - sides.left) * (sides.bottom - sides.top) }
-    requires colours { All (λ c. c < 2 ^ 24) colours.now }
+    requires colours { All (λ c. c < COLOURS) colours.now }
     ensures { (k : ℕ) (d : Cell) → k < length cells.old → slice_index_or cells.new k d
         ≡ (if between sides (k % width) (k / width)
         then cell_of hidden (slice_index_or colours.now (place_in sides (k % width) (k / width)) 0)

@@ -3,10 +3,13 @@
 
 mod cell;
 mod drawing;
+mod laws;
 mod picture;
 mod surface;
 #[cfg(test)]
 mod tests;
 
+pub use cell::COLOURS;
+pub use laws::seen_is_surface;
 pub use picture::Picture;
 pub use surface::Surface;

@@ -1,8 +1,10 @@
 //! A picture: a cell for each point, row by row, drawn in place.
 
-ghost use Rattle.std.specs.Prelude.{◌≡◌, ◌+◌, ◌*◌, ◌^◌, ◌<◌, ◌≤◌, length, slice_range, IsTrue, IfOk};
+ghost use Rattle.std.specs.Prelude.{◌≡◌, ◌+◌, ◌*◌, ◌<◌, ◌≤◌, length, slice_range, IsTrue, IfOk};
 ghost use Rattle.std.specs.Prelude.{ℕ, All, map, false};
 ghost use Rattle.std.specs.List.{list_any};
+ghost use Rattle.dd_grid.specs.declared.cell.TheConstants.{COLOURS};
+ghost use Rattle.dd_geom.specs.Grid.{SameSize};
 ghost use Rattle.dd_geom.specs.Rect.{IsSize, AreInside, is_inside, is_move_inside, points};
 
 use crate::cell::Pixel;
@@ -13,7 +15,7 @@ use std::marker::Model;
 
 /// A picture of a size that a surface may have, with exactly one cell of 4 bytes for each point.
 ///
-/// No cell is hidden where nothing was ever covered.
+/// Each cell has a colour below 2^24, and none is hidden where nothing was ever covered.
 #[derive(Debug, Drop)]
 pub struct Picture {
     width: u32,
@@ -80,10 +82,9 @@ impl Picture {
     /// Fills a rectangle with plain cells of one colour.
     pub fn fill(&mut self, r: Rect, colour: u32)
         requires inside { IsTrue (is_inside r self.old.width self.old.height) }
-        requires colour { colour < 2 ^ 24 }
+        requires colour { colour < COLOURS }
         ensures drawn { self.new ≡ filled self.old r colour }
-        ensures width { self.new.width ≡ self.old.width }
-        ensures height { self.new.height ≡ self.old.height }
+        ensures size { SameSize self.old self.new }
     {
         let width = self.width as usize;
         let height = self.height as usize;
@@ -94,11 +95,10 @@ impl Picture {
     /// Draws an image in a rectangle, with plain cells: one colour for each point, row by row.
     pub fn blit(&mut self, r: Rect, colours: &[u32])
         requires inside { IsTrue (is_inside r self.old.width self.old.height) }
-        requires colours { All (λ c. c < 2 ^ 24) colours.now }
+        requires colours { All (λ c. c < COLOURS) colours.now }
         requires count { length colours.now ≡ points r }
         ensures drawn { self.new ≡ blitted self.old r colours.now }
-        ensures width { self.new.width ≡ self.old.width }
-        ensures height { self.new.height ≡ self.old.height }
+        ensures size { SameSize self.old self.new }
     {
         let width = self.width as usize;
         let height = self.height as usize;
@@ -108,11 +108,10 @@ impl Picture {
     /// Draws an image in a rectangle, with hidden cells: one colour for each point, row by row.
     pub fn cover(&mut self, r: Rect, colours: &[u32])
         requires inside { IsTrue (is_inside r self.old.width self.old.height) }
-        requires colours { All (λ c. c < 2 ^ 24) colours.now }
+        requires colours { All (λ c. c < COLOURS) colours.now }
         requires count { length colours.now ≡ points r }
         ensures drawn { self.new ≡ covered self.old r colours.now }
-        ensures width { self.new.width ≡ self.old.width }
-        ensures height { self.new.height ≡ self.old.height }
+        ensures size { SameSize self.old self.new }
     {
         let width = self.width as usize;
         let height = self.height as usize;
@@ -125,8 +124,7 @@ impl Picture {
     pub fn scroll(&mut self, m: Move)
         requires inside { IsTrue (is_move_inside m self.old.width self.old.height) }
         ensures drawn { self.new ≡ moved_cells self.old m }
-        ensures width { self.new.width ≡ self.old.width }
-        ensures height { self.new.height ≡ self.old.height }
+        ensures size { SameSize self.old self.new }
     {
         let width = self.width as usize;
         let height = self.height as usize;
@@ -155,7 +153,7 @@ impl Picture {
         requires x { x < self.now.width }
         requires y { y < self.now.height }
         ensures colour { result ≡ (cell_at self.now x y).colour }
-        ensures small { result < 2 ^ 24 }
+        ensures small { result < COLOURS }
     {
         self.cell(x, y).colour()
     }
@@ -174,7 +172,7 @@ impl Picture {
         requires x { x < self.now.width }
         requires y { y < self.now.height }
         ensures colour { result ≡ seen_cell (cell_at self.now x y) }
-        ensures small { result < 2 ^ 24 }
+        ensures small { result < COLOURS }
     {
         self.cell(x, y).seen()
     }

@@ -1,9 +1,10 @@
 //! A surface: a visible colour for each point, row by row.
 
-ghost use Rattle.std.specs.Prelude.{◌≡◌, ℕ, ◌*◌, ◌/◌, ◌%◌, ◌^◌, ◌<◌, length, map, All, IsTrue, IfOk};
+ghost use Rattle.std.specs.Prelude.{◌≡◌, ℕ, ◌*◌, ◌/◌, ◌%◌, ◌<◌, length, map, All, IsTrue, IfOk};
 ghost use Rattle.std.specs.Prelude.{slice_index_or, if◌then◌else◌};
 ghost use Rattle.dd_geom.specs.Rect.{IsSize, AreInside, between, is_inside, is_move_inside};
-ghost use Rattle.dd_geom.specs.Grid.{row};
+ghost use Rattle.dd_grid.specs.declared.cell.TheConstants.{COLOURS};
+ghost use Rattle.dd_geom.specs.Grid.{SameSize, row};
 ghost use Rattle.dd_grid.specs.Cell.{seen_cell};
 ghost use Rattle.dd_grid.specs.Drawing.{cell_at};
 
@@ -13,7 +14,8 @@ use dd_geom::{Move, Rect, Sides, scroll, sides_of};
 use std::alloc::{AllocError, Global};
 use std::marker::Model;
 
-/// A surface of a size that a mode may have, with exactly one colour of 4 bytes for each point.
+/// A surface of a size that a mode may have, with exactly one colour of 4 bytes, below 2^24, for
+/// each point.
 #[derive(Debug, Drop)]
 pub struct Surface {
     width: u32,
@@ -38,7 +40,7 @@ impl Model for Surface {
 fn take_run(to: &mut [u32], from: &[Pixel])
     requires { length to.old ≡ length from.now }
     ensures seen { to.new ≡ map seen_cell from.now }
-    ensures small { All (λ c. c < 2 ^ 24) to.new }
+    ensures small { All (λ c. c < COLOURS) to.new }
 {
     for x in 0..to.len() {
         to[x] = from[x].seen();
@@ -54,7 +56,7 @@ fn take_rows(colours: &mut [u32], width: usize, height: usize, sides: Sides, fro
     ensures taken { (k : ℕ) (d : ℕ) → k < length colours.old → slice_index_or colours.new k d
         ≡ (if between sides (k % width) (k / width) then seen_cell (cell_at from.now (k % width) (k / width))
         else slice_index_or colours.old k d) }
-    ensures small { All (λ c. c < 2 ^ 24) colours.old → All (λ c. c < 2 ^ 24) colours.new }
+    ensures small { All (λ c. c < COLOURS) colours.old → All (λ c. c < COLOURS) colours.new }
 {
     for y in sides.top..sides.bottom {
         let start = y * width;
@@ -97,7 +99,7 @@ impl Surface {
     pub fn row(&self, y: u32) -> &[u32]
         requires { y < self.now.height }
         ensures row { result.now ≡ row self.now y }
-        ensures colours { All (λ c. c < 2 ^ 24) result.now }
+        ensures colours { All (λ c. c < COLOURS) result.now }
     {
         let start = y as usize * self.width as usize;
         &self.colours[start..start + self.width as usize]
@@ -107,10 +109,9 @@ impl Surface {
     pub fn set(&mut self, x: u32, y: u32, colour: u32)
         requires x { x < self.old.width }
         requires y { y < self.old.height }
-        requires colour { colour < 2 ^ 24 }
+        requires colour { colour < COLOURS }
         ensures set { self.new ≡ with_colour self.old x y colour }
-        ensures width { self.new.width ≡ self.old.width }
-        ensures height { self.new.height ≡ self.old.height }
+        ensures size { SameSize self.old self.new }
     {
         self.colours[y as usize * self.width as usize + x as usize] = colour;
     }
@@ -120,8 +121,7 @@ impl Surface {
     pub fn scroll(&mut self, m: Move)
         requires inside { IsTrue (is_move_inside m self.old.width self.old.height) }
         ensures drawn { self.new ≡ moved self.old m }
-        ensures width { self.new.width ≡ self.old.width }
-        ensures height { self.new.height ≡ self.old.height }
+        ensures size { SameSize self.old self.new }
     {
         let width = self.width as usize;
         let height = self.height as usize;
@@ -133,8 +133,7 @@ impl Surface {
         requires inside { IsTrue (is_inside r self.old.width self.old.height) }
         requires inside_from { IsTrue (is_inside r from.now.width from.now.height) }
         ensures taken { self.new ≡ taken self.old r from.now }
-        ensures width { self.new.width ≡ self.old.width }
-        ensures height { self.new.height ≡ self.old.height }
+        ensures size { SameSize self.old self.new }
     {
         let width = self.width as usize;
         let height = self.height as usize;

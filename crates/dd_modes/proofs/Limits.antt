@@ -1,7 +1,7 @@
 -- What the tests on modes say, as facts.
 use Rattle.std.proofs.Common.{◌≡◌, ◌*◌, ◌<◌, ◌≤◌, true, List, [], ◌∷◌, length, nat_le, arith}
 use Rattle.std.specs.List.{list_all}
-use Rattle.std.proofs.lemmas.Bool.{and_parts}
+use Rattle.std.proofs.lemmas.Bool.{and_parts, and_from, le-leb}
 use Rattle.dd_geom.specs.Rect.{IsSize}
 use Rattle.dd_geom.specs.declared.rect.TheConstants.{MAX_SIDE, MAX_PIXELS}
 use Rattle.dd_modes.specs.declared.modes.Mode.{Mode}
@@ -25,9 +25,23 @@ size_of_mode m h =
       pixels = leb-true _ _ e.1;
     }
 
+-- and a mode of such a size is within the limits
+pub mode_of_size : (m : Mode) → IsSize m.width m.height → is_mode m ≡ true
+unfolding is_mode
+mode_of_size m s =
+    and_from _ _
+    (and_from _ _
+    (and_from _ _ (and_from _ _ (le-leb 1 m.width s.wide) (le-leb m.width MAX_SIDE s.width))
+    (le-leb 1 m.height s.high))
+    (le-leb m.height MAX_SIDE s.height))
+    (le-leb (m.width * m.height) MAX_PIXELS s.pixels)
+
 -- there is a first mode, and its size keeps the limits
-pub first_of_modes : (ms : List Mode) → are_modes ms ≡ true → (0 < length ms) × IsSize (first_mode ms).width (first_mode ms).height
+pub first_of_modes : (ms : List Mode) → are_modes ms ≡ true → (0 < length ms)
+    × IsSize (first_mode ms).width (first_mode ms).height
 unfolding are_modes
-first_of_modes [] h = let a = and_parts _ (list_all is_mode []) h in let b = and_parts (nat_le 1 0) (nat_le 0 MAX_MODES) a.0 in absurd (let c : 1 ≤ 0 = leb-true 1 0 b.0 in omega arith)
+first_of_modes [] h = let a = and_parts _ (list_all is_mode []) h in let b =
+    and_parts (nat_le 1 0) (nat_le 0 MAX_MODES) a.0 in absurd (let c : 1 ≤ 0 = leb-true 1 0 b.0 in omega arith)
 first_of_modes (m ∷ ms) h =
-    let a = and_parts _ (list_all is_mode (m ∷ ms)) h in (omega arith, size_of_mode m (and_parts (is_mode m) (list_all is_mode ms) a.1).0)
+    let a = and_parts _ (list_all is_mode (m ∷ ms)) h in
+    (omega arith, size_of_mode m (and_parts (is_mode m) (list_all is_mode ms) a.1).0)

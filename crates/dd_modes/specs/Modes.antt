@@ -8,7 +8,9 @@ use Rattle.dd_modes.specs.declared.modes.TheConstants.{MAX_MODES}
 
 -- the size keeps the limits
 unfoldable pub is_mode : Mode → Bool
-is_mode m = nat_le 1 m.width && nat_le m.width MAX_SIDE && nat_le 1 m.height && nat_le m.height MAX_SIDE && nat_le (m.width * m.height) MAX_PIXELS
+is_mode m =
+    nat_le 1 m.width && nat_le m.width MAX_SIDE && nat_le 1 m.height && nat_le m.height MAX_SIDE
+    && nat_le (m.width * m.height) MAX_PIXELS
 
 -- 1 to 16 modes, each within the limits
 unfoldable pub are_modes : List Mode → Bool

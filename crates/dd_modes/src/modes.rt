@@ -1,6 +1,6 @@
 //! Modes, and the list of those that an output has.
 
-ghost use Rattle.std.specs.Prelude.{◌≡◌, IsTrue, if◌then◌else◌};
+ghost use Rattle.std.specs.Prelude.{◌≡◌, ◌↔◌, IsTrue, if◌then◌else◌};
 ghost use Rattle.dd_geom.specs.Rect.{IsSize};
 ghost use Rattle.std.specs.List.{list_all};
 ghost use Rattle.dd_modes.specs.Modes.{is_mode, are_modes};
@@ -33,8 +33,16 @@ impl Mode {
     ghost use Rattle.dd_modes.specs.Modes.{is_mode};
 
     /// Whether the size keeps the limits: sides of 1 to 8,192 and at most 16,777,216 pixels.
-    #[tactic(auto, unfolding(crate::specs::Modes::is_mode))]
     pub fn is_within_limits(&self) -> bool
+        ensures mode { result ≡ is_mode self.now }
+        ensures size { IsTrue result ↔ IsSize self.now.width self.now.height }
+    {
+        self.has_sides_and_pixels()
+    }
+
+    /// Whether both sides and the number of pixels are among those that a mode may have.
+    #[tactic(auto, unfolding(crate::specs::Modes::is_mode))]
+    fn has_sides_and_pixels(&self) -> bool
         ensures { result ≡ is_mode self.now }
     {
         let (w, h) = (self.width, self.height);

@@ -1,4 +1,4 @@
--- Small lists of operations, fitted and drawn by the definitions.
+-- How many operations a present has, and small lists of them, fitted and drawn by the definitions.
 use Rattle.std.proofs.Common.{◌≡◌, ℕ, true, false, pos, List, [], ◌∷◌, Some, None, refl}
 use Rattle.dd_geom.specs.declared.rect.Rect.{Rect}
 use Rattle.dd_geom.specs.declared.rect.Move.{Move}
@@ -6,6 +6,7 @@ use Rattle.dd_geom.specs.Grid.{rows}
 use Rattle.dd_grid.specs.Drawing.{black, seen, any_hidden}
 use Rattle.dd_ops.specs.declared.operations.Op.{Op}
 use Rattle.dd_ops.specs.declared.operations.Op.TheVariants.{Fill, Blit, Cover, Scroll}
+use Rattle.dd_ops.specs.declared.lists.TheConstants.{MAX_OPS}
 use Rattle.dd_ops.specs.Operations.{fits, all_fit, first_unfit, drawn}
 
 abbrev rect : ℕ → ℕ → ℕ → ℕ → Rect
@@ -13,6 +14,9 @@ rect l t r b = record { left = pos l; top = pos t; right = pos r; bottom = pos b
 
 abbrev from : ℕ → ℕ → Rect → Move
 from x y dest = record { source = record { x = pos x; y = pos y }; dest = dest }
+
+max_ops : MAX_OPS ≡ 64
+max_ops = refl
 
 abbrev two : List Op
 two = Fill (rect 1 1 3 2) 16711680 ∷ Fill (rect 2 0 4 2) 7 ∷ []

@@ -1,14 +1,14 @@
 -- Which operations fit a surface, and what they draw.
-use Rattle.std.specs.Prelude.{ℕ, Bool, ◌&&◌, ◌==◌, not, nat_lt, List, length, fold, Option, position}
+use Rattle.std.specs.Prelude.{ℕ, Bool, ◌&&◌, ◌==◌, not, nat_lt, List, length, fold, Option, position, IsTrue}
 use Rattle.std.specs.List.{list_all}
 use Rattle.dd_geom.specs.declared.rect.Rect.{Rect}
 use Rattle.dd_geom.specs.Grid.{Grid}
 use Rattle.dd_geom.specs.Rect.{is_inside, is_move_inside, points}
+use Rattle.dd_grid.specs.declared.cell.TheConstants.{COLOURS}
 use Rattle.dd_grid.specs.Cell.{Cell}
-use Rattle.dd_grid.specs.Drawing.{filled, blitted, covered, moved_cells}
+use Rattle.dd_grid.specs.Drawing.{IsPicture, filled, blitted, covered, moved_cells}
 use Rattle.dd_ops.specs.declared.operations.Op.{Op}
 use Rattle.dd_ops.specs.declared.operations.Op.TheVariants.{Fill, Blit, Cover, Scroll}
-use Rattle.dd_ops.specs.declared.operations.TheConstants.{COLOURS}
 
 -- each of them is a colour
 abbrev pub are_colours : List ℕ → Bool
@@ -42,3 +42,8 @@ drawn_by p (Scroll mv) = moved_cells p mv
 
 abbrev pub drawn : Grid Cell → List Op → Grid Cell
 drawn p ops = fold drawn_by p ops
+
+-- what operations that fit make of a picture is a picture
+abbrev pub DrawnIsPicture : Type 0
+DrawnIsPicture =
+    (p : Grid Cell) (ops : List Op) → IsPicture p → IsTrue (all_fit p.width p.height ops) → IsPicture (drawn p ops)

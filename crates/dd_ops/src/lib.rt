@@ -1,10 +1,13 @@
 //! The drawing operations of a present, the list of them, and what they draw.
 #![tactic(auto)]
 
+mod laws;
 mod lists;
 mod operations;
 #[cfg(test)]
 mod tests;
 
+pub use dd_grid::COLOURS;
+pub use laws::drawn_is_picture;
 pub use lists::{Colours, MAX_OPS, Ops, OpsFault};
-pub use operations::{COLOURS, Op, apply, fits};
+pub use operations::{Op, apply, fits};

@@ -1,16 +1,14 @@
 //! One drawing operation, and whether it fits a surface.
 
 ghost use Rattle.std.specs.Prelude.{◌≡◌, IsTrue, IfOk};
+ghost use Rattle.dd_geom.specs.Grid.{SameSize};
 ghost use Rattle.dd_ops.specs.Operations.{are_colours as are_all_colours, is_image as is_an_image};
 ghost use Rattle.dd_ops.specs.Operations.{fits as fits_surface, all_fit, drawn_by, drawn};
 
 use crate::lists::{Colours, Ops};
 use dd_geom::{Move, Rect, move_inside, point_count, rect_inside};
-use dd_grid::Picture;
+use dd_grid::{COLOURS, Picture};
 use std::alloc::AllocError;
-
-/// One past the greatest colour: red, green and blue take 8 bits each, red uppermost.
-pub const COLOURS: u32 = 0x100_0000;
 
 /// One drawing operation.
 #[derive(Debug, Drop)]
@@ -79,8 +77,7 @@ pub fn fits(op: &Op, w: u32, h: u32) -> bool
 fn draw(p: &mut Picture, op: &Op)
     requires { IsTrue (fits_surface p.old.width p.old.height op.now) }
     ensures drawn { p.new ≡ drawn_by p.old op.now }
-    ensures width { p.new.width ≡ p.old.width }
-    ensures height { p.new.height ≡ p.old.height }
+    ensures size { SameSize p.old p.new }
 {
     match op {
         Op::Fill { rect, colour } => p.fill(*rect, *colour),
@@ -94,8 +91,7 @@ fn draw(p: &mut Picture, op: &Op)
 fn draw_all(p: &mut Picture, ops: &[Op])
     requires { IsTrue (all_fit p.old.width p.old.height ops.now) }
     ensures drawn { p.new ≡ drawn p.old ops.now }
-    ensures width { p.new.width ≡ p.old.width }
-    ensures height { p.new.height ≡ p.old.height }
+    ensures size { SameSize p.old p.new }
 {
     for op in ops {
         draw(p, op);
@@ -106,8 +102,7 @@ fn draw_all(p: &mut Picture, ops: &[Op])
 pub fn apply(p: &mut Picture, ops: &Ops)
     requires { IsTrue (all_fit p.old.width p.old.height ops.now) }
     ensures drawn { p.new ≡ drawn p.old ops.now }
-    ensures width { p.new.width ≡ p.old.width }
-    ensures height { p.new.height ≡ p.old.height }
+    ensures size { SameSize p.old p.new }
 {
     draw_all(p, ops.as_slice());
 }

@@ -5,4 +5,5 @@ use Rattle.dd_geom.proofs.painting.paint.Given as goal
 
 abbrev pub invariant-loop-y : goal.invariant-loop-y
 invariant-loop-y g l =
-    (length l.cells ≡ l.width * l.height) × IsPainted l.width (record l.sides { bottom = l.y }) l.value l.fn.cells l.cells
+    (length l.cells ≡ l.width * l.height)
+    × IsPainted l.width (record l.sides { bottom = l.y }) l.value l.fn.cells l.cells

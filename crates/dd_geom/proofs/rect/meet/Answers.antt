@@ -17,8 +17,13 @@ pub returns : goal.returns
 returns c =
     let a = c.args.a in
     let b = c.args.b in
-    let left = passed int_max a.left b.left c.max.result (search rules) (search rules) (search rules) c.max.ensures.value in
-    let top = passed int_max a.top b.top c.max-2.result (search rules) (search rules) (search rules) c.max-2.ensures.value in
-    let right = passed int_min a.right b.right c.min.result (search rules) (search rules) (search rules) c.min.ensures.value in
-    let bottom = passed int_min a.bottom b.bottom c.min-2.result (search rules) (search rules) (search rules) c.min-2.ensures.value in
+    let left =
+    passed int_max a.left b.left c.max.result (search rules) (search rules) (search rules) c.max.ensures.value in
+    let top =
+    passed int_max a.top b.top c.max-2.result (search rules) (search rules) (search rules) c.max-2.ensures.value in
+    let right =
+    passed int_min a.right b.right c.min.result (search rules) (search rules) (search rules) c.min.ensures.value in
+    let bottom =
+    passed int_min a.bottom b.bottom c.min-2.result (search rules) (search rules) (search rules) c.min-2.ensures.value
+    in
     cc (left, top, right, bottom)

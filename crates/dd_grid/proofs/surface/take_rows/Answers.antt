@@ -1,9 +1,10 @@
 -- A row's run of what is seen is one row more.
-use Rattle.std.proofs.Common.{◌≡◌, ℕ, ◌+◌, ◌-◌, ◌*◌, ◌^◌, ◌<◌, ◌≤◌, List, length, get_or, All, ap, ◌∙◌, rules, arith}
+use Rattle.std.proofs.Common.{◌≡◌, ℕ, ◌+◌, ◌-◌, ◌*◌, ◌<◌, ◌≤◌, List, length, get_or, All, ap, ◌∙◌, rules, arith}
 use Rattle.std.proofs.lemmas.Grind.{pieces}
 use Rattle.std.proofs.lemmas.List.{length-map}
 use Rattle.std.proofs.lemmas.Nat.{row_fits_turned}
 use Rattle.dd_geom.proofs.PaintLemmas.{drawn_more, length-run}
+use Rattle.dd_grid.specs.declared.cell.TheConstants.{COLOURS}
 use Rattle.dd_grid.specs.Cell.{seen_cell}
 use Rattle.dd_grid.specs.Drawing.{cell_at}
 use Rattle.dd_grid.proofs.DrawingLemmas.{get_or-seen_run}
@@ -25,14 +26,15 @@ loop-y-preserved c =
     let each : (i : ℕ) (d : ℕ) → i < n → get_or run i d ≡ seen_cell (cell_at p (s.left + i) y) =
     λ (i d : ℕ) (e : i < n).
     ap (λ (xs : List ℕ). get_or xs i d) c.take_run.ensures.seen
-    ∙ get_or-seen_run p y s.left s.right cells i d c.run-run.ensures.cells (omega arith) (omega arith) (omega arith) (omega arith) in
+    ∙ get_or-seen_run p y s.left s.right cells i d c.run-run.ensures.cells (omega arith) (omega arith) (omega arith)
+    (omega arith) in
     record {
       whole = length-run (y * w + s.left) n old run (omega arith) long ∙ c.loop-y.invariant.whole;
       taken =
           drawn_more w h s y n (λ at_x at_y. seen_cell (cell_at p at_x at_y)) c.args.colours.now old run (omega arith)
           (omega arith) (omega arith) (omega arith) (omega arith) (omega arith) long each c.loop-y.invariant.taken;
       small = λ all.
-          let before : All (λ v. v < 2 ^ 24) old = c.loop-y.invariant.small all in
-          let within : All (λ v. v < 2 ^ 24) run = c.take_run.ensures.small in
+          let before : All (λ v. v < COLOURS) old = c.loop-y.invariant.small all in
+          let within : All (λ v. v < COLOURS) run = c.take_run.ensures.small in
           search (rules, pieces);
     }

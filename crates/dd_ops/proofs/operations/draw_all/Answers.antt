@@ -4,7 +4,7 @@ use Rattle.dd_ops.proofs.operations.draw_all.Goals as goal
 
 pub draw-requires : goal.draw-requires
 draw-requires c =
-    rw (c.loop-op.invariant.1, c.loop-op.invariant.2)
+    rw (c.loop-op.invariant.1.width, c.loop-op.invariant.1.height)
     (fits_at c.args.p.now.width c.args.p.now.height c.args.ops.now c.loop-op.op-index c.op-item.result c.requires
     c.loop-op-test.true c.op-item.is)
 
@@ -13,6 +13,8 @@ loop-op-preserved c = (
   c.draw.ensures.drawn
       ∙ drawn_more c.args.p.now c.loop-op.p c.args.ops.now c.loop-op.op-index c.op-item.result c.loop-op-test.true
       c.op-item.is c.loop-op.invariant.0,
-  c.draw.ensures.width ∙ c.loop-op.invariant.1,
-  c.draw.ensures.height ∙ c.loop-op.invariant.2,
+  record {
+    width = c.draw.ensures.size.width ∙ c.loop-op.invariant.1.width;
+    height = c.draw.ensures.size.height ∙ c.loop-op.invariant.1.height;
+  },
 )

@@ -1,24 +1,16 @@
-use Rattle.std.proofs.Common.{Bool, length, sym, subst, ap, ◌∙◌}
+-- The set is rounded to tiles, so it is whole, and the rectangles are its list.
+use Rattle.std.proofs.Common.{Bool, ◌^◌, sym, subst, ap, ◌∙◌}
 use Rattle.dd_geom.specs.Grid.{Grid}
-use Rattle.dd_bits.specs.Area.{IsArea}
 use Rattle.dd_bits.specs.CanonicalList.{canonical_list}
+use Rattle.dd_bits.proofs.TileLemmas.{whole-tiles}
 use Rattle.dd_coal.specs.Power.{power}
-use Rattle.dd_acc.specs.Effects.{effects}
-use Rattle.dd_acc.proofs.Nowhere.{IsArea-dirtied, IsArea-rounded}
+use Rattle.dd_acc.specs.Effects.{IsWhole}
 use Rattle.dd_acc.proofs.interval.Acc.add.Goals as goal
-
-pub coalesce-requires : goal.coalesce-requires
-coalesce-requires g c =
-    subst (λ (s : Grid Bool). IsArea s) (sym c.in_ok-add_effects.ensures.area)
-    (IsArea-dirtied (g.A.Area.points c.self.inside.area) (effects (length c.self.inside.moves) c.as_slice.result.now) c.self.invariant.1)
 
 pub invariant_of-result : goal.invariant_of-result
 invariant_of-result g c =
     let p : Grid Bool = g.A.Area.points c.add_effects.new.area in
-    let e = c.in_ok-area.ensures in
-    let before : IsArea p =
-    subst (λ (s : Grid Bool). IsArea s) (sym c.in_ok-add_effects.ensures.area)
-    (IsArea-dirtied (g.A.Area.points c.self.inside.area) (effects (length c.self.inside.moves) c.as_slice.result.now) c.self.invariant.1) in (
+    let e = c.in_ok-area.ensures in (
       c.from_slice.ensures ∙ (c.as_slice-2.ensures ∙ (e.rects ∙ ap canonical_list (sym e.area))),
-      subst (λ (s : Grid Bool). IsArea s) (sym e.area) (IsArea-rounded (power p) p before),
+      subst (λ (s : Grid Bool). IsWhole s) (sym e.area) (whole-tiles (2 ^ power p) p),
     )

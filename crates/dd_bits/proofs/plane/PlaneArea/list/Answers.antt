@@ -29,8 +29,8 @@ loop-y-smaller c =
     band_end-is g c.loop-y.y c.band_end-end.result (omega arith) c.band_end-end.ensures in
     omega (arith, is.some, is.within)
 
-pub returns : goal.returns
-returns c =
+pub returns-clause-list : goal.returns-clause-list
+returns-clause-list c =
     let g : Grid Bool = c.args.self.now in
     let last : g.height ≤ c.loop-y.y = omega (arith, ap (λ (v : Grid Bool). v.height) c.self.view_is) in
     c.from_vec.ensures ∙ IsListed-all g c.loop-y.y c.loop-y.out.items c.loop-y.invariant last

@@ -16,6 +16,6 @@ invariant_of-self c =
     let is_moved : at (with_items p.cells c.scroll.new.cells).items ≡ moved_cells old c.args.m =
     ap at (with_items_is p.cells c.scroll.new.cells (omega arith))
     ∙ (c.scroll.ensures (plain 0) ∙ ap (λ cs. moved_cells (at cs) c.args.m) c.deref_mut.ensures.value) in (
-      subst IsPicture (sym is_moved) (IsPicture-moved old c.args.m c.self.invariant.0.size),
+      subst IsPicture (sym is_moved) (IsPicture-moved old c.args.m c.self.invariant.0),
       λ none. subst ShowsAll (sym is_moved) (ShowsAll-moved old c.args.m (c.self.invariant.1 none)),
     )

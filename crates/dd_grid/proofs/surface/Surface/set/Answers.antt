@@ -9,6 +9,7 @@ pub returns-clause-set : goal.returns-clause-set
 returns-clause-set c =
     let s = c.self.inside in
     let view : Grid ℕ = record { width = s.width; height = s.height; cells = s.colours.items } in
-    with_colour_from_set view c.args.x c.args.y c.args.colour (omega (arith, ap (λ (g : Grid ℕ). g.width) c.self.view_is))
+    with_colour_from_set view c.args.x c.args.y c.args.colour
+    (omega (arith, ap (λ (g : Grid ℕ). g.width) c.self.view_is))
     (omega (arith, ap (λ (g : Grid ℕ). g.height) c.self.view_is)) c.self.invariant.whole
     ∙ ap (λ n. with_colour n c.args.x c.args.y c.args.colour) c.self.view_is

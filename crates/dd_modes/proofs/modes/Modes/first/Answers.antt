@@ -1,3 +1,4 @@
+-- A list of modes has a first one, and it keeps the limits.
 use Rattle.std.proofs.Common.{◌≡◌, ◌<◌, sym, subst, rules, List, [], ◌∷◌, length, slice_index_or, arith}
 use Rattle.dd_geom.specs.Rect.{IsSize}
 use Rattle.dd_modes.specs.declared.modes.Mode.{Mode}
@@ -23,5 +24,6 @@ returns-clause-value c =
 pub returns-clause-size : goal.returns-clause-size
 returns-clause-size c =
     let f = first_of_modes c.self.inside.items.items c.self.invariant in
-    let at : c.index.result.now ≡ first_mode c.self.inside.items.items = at_front c.self.inside.items.items c.index.result.now f.0 c.index.ensures in
+    let at : c.index.result.now ≡ first_mode c.self.inside.items.items =
+    at_front c.self.inside.items.items c.index.result.now f.0 c.index.ensures in
     subst (λ (m : Mode). IsSize m.width m.height) (sym at) f.1
