@@ -1,3 +1,4 @@
 pub mod RowLemmas
 pub mod WindowLemmas
 pub mod BandLemmas
+pub mod KeptLemmas

@@ -1,6 +1,9 @@
 //! Sets of points of a surface as bands of equal rows.
 #![tactic(auto)]
 
+mod bands;
 mod rows;
 mod run;
 mod sweep;
+
+pub use bands::Bands;

@@ -1,0 +1,64 @@
+-- Bands as the grid of a set.
+use Rattle.std.proofs.Common.{◌≡◌, ℕ, ◌+◌, ◌-◌, ◌<◌, ◌≤◌, Bool, true, false, not, ◌&&◌, ◌||◌, nat_le, nat_lt, if◌then◌else◌, cond, sym, ap, ◌∙◌, refl, subst, arith, inl, inr}
+use Rattle.std.proofs.lemmas.Bool.{and_parts, leb-true, ltb-true, cases_Bool, cond-true, cond-false}
+use Rattle.dd_geom.specs.declared.rect.Sides.{Sides}
+use Rattle.dd_geom.specs.Rect.{between, AreInside}
+use Rattle.dd_geom.specs.Grid.{Grid, grid}
+use Rattle.dd_geom.proofs.GridLemmas.{value_at-grid, grid_from_agree}
+use Rattle.dd_bits.specs.Area.{is_in}
+use Rattle.dd_region.specs.declared.rows.Rows.{Rows}
+use Rattle.dd_region.specs.declared.sweep.Inside.{Inside}
+use Rattle.dd_region.specs.declared.sweep.Inside.TheVariants.{Nothing, Whole, Source}
+use Rattle.dd_region.specs.declared.sweep.Patch.{Patch}
+use Rattle.dd_region.specs.Rows.{depth, has_point}
+use Rattle.dd_region.specs.Sweep.{inside_has, with_patch, HasSource, IsPatch, HasPatch}
+use Rattle.dd_region.specs.Kept.{patched}
+
+-- a point between four sides
+record IsBetween (s : Sides) (x y : ℕ) : Type 0 where
+  pub left : s.left ≤ x
+  pub right : x < s.right
+  pub top : s.top ≤ y
+  pub bottom : y < s.bottom
+
+IsBetween-test : (s : Sides) (x y : ℕ) → between s x y ≡ true → IsBetween s x y
+IsBetween-test s x y e =
+    let most = and_parts (nat_le s.left x && nat_lt x s.right && nat_le s.top y) (nat_lt y s.bottom) e in
+    let across = and_parts (nat_le s.left x && nat_lt x s.right) (nat_le s.top y) most.0 in
+    let first = and_parts (nat_le s.left x) (nat_lt x s.right) across.0 in
+    record {
+      left = leb-true s.left x first.0;
+      right = ltb-true x s.right first.1;
+      top = leb-true s.top y across.1;
+      bottom = ltb-true y s.bottom most.1;
+    }
+
+-- what comes between the sides is told by the points of the surface alone
+inside-same :
+    (i : Inside) (s : Sides) (w h x y : ℕ) (f : ℕ → ℕ → Bool) → HasSource i s w h → IsBetween s x y
+    → inside_has i s f x y ≡ inside_has i s (is_in (grid w h f)) x y
+inside-same Nothing s w h x y f has b = refl
+inside-same Whole s w h x y f has b = refl
+inside-same (Source column row) s w h x y f has b =
+    sym (value_at-grid false w h f (x + column - s.left) (y + row - s.top)
+    (omega (arith, has.0, b.left, b.right)) (omega (arith, has.1, b.top, b.bottom)))
+
+patch-same :
+    (p : Patch) (w h x y : ℕ) (f : ℕ → ℕ → Bool) → IsPatch p w h → x < w → y < h
+    → with_patch p f x y ≡ with_patch p (is_in (grid w h f)) x y
+patch-same p w h x y f is a b =
+    elim (cases_Bool (between p.sides x y)) [
+      | inl e ↦ cond-true _ _ _ e
+          ∙ inside-same p.inside p.sides w h x y f is.source (IsBetween-test p.sides x y e)
+          ∙ sym (cond-true _ _ _ e)
+      | inr e ↦ cond-false _ _ _ e ∙ sym (value_at-grid false w h f x y a b) ∙ sym (cond-false _ _ _ e)
+    ]
+
+-- rows with a patch are the set with it
+pub patched_grid :
+    (p : Patch) (w h : ℕ) (old new : Rows) (g : Grid Bool) → grid w h (has_point old) ≡ g → IsPatch p w h
+    → depth old ≡ h → HasPatch p old (depth old) new → grid w h (has_point new) ≡ patched g p
+patched_grid p w h old new g is patch deep has =
+    grid_from_agree w h (has_point new) (with_patch p (is_in (grid w h (has_point old)))) (λ x y a b.
+    has.points x y (omega (arith, has.deep)) ∙ patch-same p w h x y (has_point old) patch a b)
+    ∙ ap (λ v. patched v p) is
