@@ -148,3 +148,16 @@ row_at-band s k y z b l passed e p q =
 pub bottom_within :
     (bs : List Band) (k : ℕ) (b : Band) → k < length bs → b ≡ get_or bs k b → b.bottom ≤ bands_depth bs
 bottom_within bs k b l e = subst (λ (v : Band). v.bottom ≤ bands_depth bs) (sym e) (All-depth bs k b l)
+
+IsRow-runs_at : (runs : List Run) (bs : List Band) (y : ℕ) → All (IsBand runs) bs → IsRow (runs_at runs bs y)
+IsRow-runs_at runs [] y h = record { some = λ k d l. absurd (omega arith); apart = λ i j d a b. absurd (omega arith) }
+IsRow-runs_at runs (b ∷ bs) y h =
+    elim (cases_lt y b.bottom) [
+      | inl a ↦ subst IsRow (sym (cond-true _ _ _ (lt-ltb y b.bottom a))) (All-head (IsBand runs) b bs h).row
+      | inr a ↦ subst IsRow (sym (cond-false _ _ _ (le-ltb y b.bottom a)))
+          (IsRow-runs_at runs bs y (All-tail (IsBand runs) b bs h))
+    ]
+
+-- each row is a row
+pub IsRow-at : (s : Rows) (y : ℕ) → AreRows s → IsRow (row_at s y)
+IsRow-at s y is = IsRow-runs_at s.runs.items s.bands.items y is

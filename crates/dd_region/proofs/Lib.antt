@@ -2,3 +2,5 @@ pub mod RowLemmas
 pub mod WindowLemmas
 pub mod BandLemmas
 pub mod KeptLemmas
+pub mod ListLemmas
+pub mod BandList

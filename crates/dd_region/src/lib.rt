@@ -2,6 +2,7 @@
 #![tactic(auto)]
 
 mod bands;
+mod listing;
 mod rows;
 mod run;
 mod sweep;
