@@ -4,3 +4,4 @@ pub mod BandLemmas
 pub mod KeptLemmas
 pub mod ListLemmas
 pub mod BandList
+pub mod TileRuns

@@ -6,5 +6,6 @@ mod listing;
 mod rows;
 mod run;
 mod sweep;
+mod tiling;
 
 pub use bands::Bands;
