@@ -5,3 +5,4 @@ pub mod KeptLemmas
 pub mod ListLemmas
 pub mod BandList
 pub mod TileRuns
+pub mod UniteLemmas

@@ -1,8 +1,10 @@
 -- How bands are rounded to tiles, for private functions alone.
-use Rattle.std.specs.Prelude.{◌≡◌, ℕ, ◌+◌, ◌-◌, ◌*◌, ◌/◌, ◌<◌, ◌≤◌, Bool, true, ◌&&◌, nat_lt}
+use Rattle.std.specs.Prelude.{◌≡◌, ℕ, ◌+◌, ◌-◌, ◌*◌, ◌/◌, ◌<◌, ◌≤◌, List, length, take, slice_index_or, Bool, ◌&&◌, ◌||◌, nat_lt}
 use Rattle.std.specs.List.{range_with_len, list_any}
 use Rattle.dd_geom.specs.Grid.{grid}
 use Rattle.dd_bits.specs.Tiles.{tile_has}
+use Rattle.dd_region.specs.declared.run.Run.{Run}
+use Rattle.dd_region.specs.Runs.{in_runs, IsRow, BeginBy}
 use Rattle.dd_region.specs.declared.rows.Rows.{Rows}
 use Rattle.dd_region.specs.Rows.{row_at, depth, AreRows, has_point, HavePoints}
 
@@ -18,13 +20,21 @@ columns_between s top bottom x = list_any (λ y. has_point s x y) (range_with_le
 abbrev pub tile_point : ℕ → ℕ → ℕ → Rows → ℕ → ℕ → Bool
 tile_point t w h s x y = nat_lt x w && tile_has (grid w h (has_point s)) t (x / t) (y / t)
 
--- the rows from top to end - 1 are those of one row of tiles, or have the same runs and are those of some rows of tiles
-pub record IsTileRow (t h : ℕ) (s : Rows) (top end : ℕ) : Type 0 where
+-- a row made of the first i runs of one row and the first j of another, to which their next runs can be added
+pub record IsUnited (one other : List Run) (i j : ℕ) (made : List Run) : Type 0 where
+  pub columns : (x : ℕ) → in_runs made x ≡ (in_runs (take i one) x || in_runs (take j other) x)
+  pub row : IsRow made
+  pub within_first : i ≤ length one
+  pub within_second : j ≤ length other
+  pub first : (k : ℕ) (d : Run) → i ≤ k → k < length one → BeginBy made (slice_index_or one k d).left
+  pub second : (k : ℕ) (d : Run) → j ≤ k → k < length other → BeginBy made (slice_index_or other k d).left
+
+-- rows from top on are one row of tiles, or whole rows of tiles down to where all rows are the same at most
+pub record IsTilesEnd (t h top same_to end : ℕ) : Type 0 where
   pub some : top < end
   pub within : end ≤ h
-  pub whole : (y z : ℕ) → top ≤ y → y < end → z < h → z / t ≡ y / t → (top ≤ z) × (z < end)
-  pub same : (y z u : ℕ) → top ≤ y → y < end → top ≤ z → z < end → has_point s u z ≡ true
-      → (v : ℕ) × (v / t ≡ y / t) × (v < h) × (has_point s u v ≡ true)
+  pub whole : end < h → end / t * t ≡ end
+  pub short : top + t < end → end ≤ same_to
 
 -- the rows down to row y - 1 of a set that is rounded
 pub record HasTiles (t w h : ℕ) (old : Rows) (y : ℕ) (now : Rows) : Type 0 where
