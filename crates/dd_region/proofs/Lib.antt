@@ -6,3 +6,4 @@ pub mod ListLemmas
 pub mod BandList
 pub mod TileRuns
 pub mod UniteLemmas
+pub mod TileRows

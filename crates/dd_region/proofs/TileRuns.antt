@@ -14,7 +14,7 @@ use Rattle.dd_region.specs.Runs.{in_run, in_runs, IsRow, BeginBy}
 use Rattle.dd_region.specs.Tiling.{tile_columns}
 
 -- multiples of a number that differ are at least that number apart
-multiples_apart : (i j t : ℕ) → i * t < j * t → i * t + t ≤ j * t
+pub multiples_apart : (i j t : ℕ) → i * t < j * t → i * t + t ≤ j * t
 multiples_apart i j t l =
     elim (cases_lt i j) [
       | inl h ↦ omega (arith, mul-le (i + 1) t j t (omega arith) (omega arith))
@@ -26,13 +26,13 @@ pub record IsTileStart (t x start : ℕ) : Type 0 where
   pub from : start ≤ x
   pub to : x < start + t
 
-tile_start : (t x : ℕ) → 1 ≤ t → IsTileStart t x (x / t * t)
+pub tile_start : (t x : ℕ) → 1 ≤ t → IsTileStart t x (x / t * t)
 tile_start t x some = record {
   from = omega (arith, div-add-mod' x t);
   to = omega (arith, div-add-mod' x t, mod-lt x some);
 }
 
-tile_order : (t a b : ℕ) → 1 ≤ t → a ≤ b → a / t * t ≤ b / t * t
+pub tile_order : (t a b : ℕ) → 1 ≤ t → a ≤ b → a / t * t ≤ b / t * t
 tile_order t a b some l =
     let p = tile_start t a some in
     let q = tile_start t b some in

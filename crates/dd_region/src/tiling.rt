@@ -4,8 +4,10 @@ ghost use Rattle.std.specs.Prelude.{◌≡◌, ℕ, ◌+◌, ◌*◌, ◌/◌, �
 ghost use Rattle.std.specs.Bool.{OnTrue, OnFalse};
 ghost use Rattle.dd_region.specs.declared.run.Run.{Run};
 ghost use Rattle.dd_region.specs.Runs.{in_run, in_runs, IsRow};
-ghost use Rattle.dd_region.specs.Tiling.{tile_columns, columns_between, IsUnited};
+ghost use Rattle.dd_region.specs.Rows.{row_at, depth, AreRows, ArePassed, AreWithin};
+ghost use Rattle.dd_region.specs.Tiling.{tile_columns, columns_between, IsUnited, IsTilesEnd, HasTiles};
 
+use crate::rows::Rows;
 use crate::run::{Run, push_run};
 use std::alloc::AllocError;
 
@@ -124,6 +126,95 @@ fn unite(row: &mut Vec<Run>, first: &[Run], second: &[Run]) -> Result<(), AllocE
     };
     while places.first < first.len() || places.second < second.len() {
         places = unite_next(row, first, second, places)?;
+    }
+    Ok(())
+}
+
+/// Makes a row of all runs of the rows from `top` to `bottom - 1`; none of the bands before the band
+/// `from` has the first of them.
+fn unite_rows(
+    row: &mut Vec<Run>,
+    spare: &mut Vec<Run>,
+    old: &Rows,
+    top: usize,
+    bottom: usize,
+    from: usize,
+) -> Result<(), AllocError>
+    requires rows { AreRows old.now }
+    requires order { top ≤ bottom }
+    requires within { bottom ≤ depth old.now }
+    requires passed { ArePassed old.now from top }
+    ensures columns { OnOk result ((x : ℕ) →
+        in_runs row.new.items x ≡ columns_between old.now top bottom x) }
+    ensures row { OnOk result (IsRow row.new.items) }
+{
+    row.clear();
+    let mut y = top;
+    let mut band = from;
+    while y < bottom {
+        let own = old.at(y, band);
+        unite(spare, row, own.runs)?;
+        std::mem::swap(row, spare);
+        band = own.band;
+        y = own.bottom.min(bottom);
+    }
+    Ok(())
+}
+
+/// Tiles of one side on a surface.
+#[derive(Clone, Copy, Debug)]
+pub struct Tiles {
+    pub side: usize,
+    pub width: usize,
+    pub height: usize,
+}
+
+/// Where the row of tiles ends that begins at row `top`, or the last of those rows of tiles in which
+/// all rows are the same, where they are so down to row `same_to - 1`.
+fn tiles_end(tiles: Tiles, top: usize, same_to: usize) -> usize
+    requires side { 1 ≤ tiles.side }
+    requires top { top < tiles.height }
+    requires start { top / tiles.side * tiles.side ≡ top }
+    requires within { same_to ≤ tiles.height }
+    requires fits { tiles.height + tiles.side < 2 ^ 64 }
+    ensures { IsTilesEnd tiles.side tiles.height top same_to result }
+{
+    if same_to == tiles.height {
+        return same_to;
+    }
+    let one = (top + tiles.side).min(tiles.height);
+    one.max(same_to / tiles.side * tiles.side)
+}
+
+/// Writes rows rounded to tiles to `new`, and takes the memory that `new`, `row` and `spare` have
+/// first.
+pub fn round_rows(
+    new: &mut Rows,
+    row: &mut Vec<Run>,
+    spare: &mut Vec<Run>,
+    old: &Rows,
+    tiles: Tiles,
+) -> Result<(), AllocError>
+    requires side { 1 ≤ tiles.side }
+    requires rows { AreRows old.now }
+    requires height { tiles.height ≡ depth old.now }
+    requires within { AreWithin old.now tiles.width }
+    requires fits_across { tiles.width + tiles.side < 2 ^ 64 }
+    requires fits_down { tiles.height + tiles.side < 2 ^ 64 }
+    ensures { OnOk result
+        (HasTiles tiles.side tiles.width tiles.height old.now tiles.height new.new) }
+{
+    new.clear();
+    let mut y = 0;
+    let mut band = 0;
+    while y < tiles.height {
+        let own = old.at(y, band);
+        let end = tiles_end(tiles, y, own.bottom);
+        unite_rows(row, spare, old, y, end, own.band)?;
+        round_runs(spare, row, tiles.side, tiles.width)?;
+        new.close(spare, end)?;
+        band = own.band;
+        y = end;
     }
     Ok(())
 }
