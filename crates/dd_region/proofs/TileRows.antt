@@ -1,5 +1,6 @@
 -- Rows rounded to tiles: the columns that rows have together, and where a row of tiles ends.
 use Rattle.std.proofs.Common.{◌≡◌, ℕ, zero, suc, ◌+◌, ◌-◌, ◌*◌, ◌/◌, ◌<◌, ◌≤◌, min, max, List, Bool, true, false, ◌||◌, ◌&&◌, nat_lt, sym, ap, ◌∙◌, refl, subst, arith, inl, inr}
+use Rattle.std.proofs.Math.Path.{fun_ext}
 use Rattle.std.specs.List.{range_with_len, list_any}
 use Rattle.std.proofs.lemmas.Bool.{cases_lt, cases_eq, false≢true, or_cases, or_left, or_right, and_parts, and_from, ltb-true, lt-ltb}
 use Rattle.std.proofs.lemmas.Nat.{div-mul-add}
@@ -7,12 +8,13 @@ use Rattle.dd_geom.specs.Grid.{Grid, grid}
 use Rattle.dd_geom.proofs.GridLemmas.{value_at-grid}
 use Rattle.dd_bits.specs.Area.{is_in}
 use Rattle.dd_bits.specs.Tiles.{tile_has}
+use Rattle.dd_bits.proofs.RowRuns.{not_true}
 use Rattle.dd_bits.proofs.TileLemmas.{HoldsAt-range, list_any-range, same_bool, tile_has-from, tile_has-to, IsOn-from}
 use Rattle.dd_region.specs.declared.run.Run.{Run}
 use Rattle.dd_region.specs.declared.rows.Rows.{Rows}
 use Rattle.dd_region.specs.Runs.{in_runs}
-use Rattle.dd_region.specs.Rows.{row_at, depth, has_point, AreWithin}
-use Rattle.dd_region.specs.Tiling.{tile_columns, columns_between, tile_point, IsTilesEnd}
+use Rattle.dd_region.specs.Rows.{row_at, depth, has_point, AreWithin, HasBandMore}
+use Rattle.dd_region.specs.Tiling.{tile_columns, columns_between, tile_point, IsTilesEnd, HasTiles}
 use Rattle.dd_region.proofs.TileRuns.{tile_start, tile_order, multiples_apart}
 
 -- further rows with the runs of one
@@ -165,3 +167,35 @@ tiles_of_rows t w h s top same_to end x y some deep within start is same a b =
     (list_any-range column t 0 k (omega arith) (omega (arith, at.from, at.to, same_start))
     (ap (columns_between s top end) there
     ∙ list_any-range (λ z. has_point s p.x z) (end - top) top p.y ends.0 (omega (arith, ends.0, ends.1)) has)))
+
+-- rows together have no column past the side of a surface
+pub columns_between-within :
+    (s : Rows) (w top bottom x : ℕ) → AreWithin s w → bottom ≤ depth s → w ≤ x → columns_between s top bottom x ≡ false
+columns_between-within s w top bottom x within deep past =
+    not_true (columns_between s top bottom x) (λ e.
+    let hold = HoldsAt-range (λ z. has_point s x z) (bottom - top) top e in
+    absurd (false≢true (sym (within x hold.place (omega (arith, hold.from, hold.to)) past) ∙ hold.holds)))
+
+-- one row of tiles more
+pub HasTiles-more :
+    (t w h : ℕ) (old before new : Rows) (top same_to end : ℕ) (row made : List Run) → 1 ≤ t → depth old ≡ h
+    → AreWithin old w → HasTiles t w h old top before → top / t * t ≡ top → IsTilesEnd t h top same_to end
+    → ((z : ℕ) → top ≤ z → z < same_to → row_at old z ≡ row_at old top)
+    → ((x : ℕ) → in_runs row x ≡ columns_between old top end x)
+    → ((x : ℕ) → in_runs made x ≡ tile_columns t w (in_runs row) x)
+    → HasBandMore before made end new → HasTiles t w h old end new
+HasTiles-more t w h old before new top same_to end row made some deep within has start is same united rounded more =
+    record {
+      rows = more.rows;
+      deep = more.deep;
+      points = λ x y l. elim (cases_lt y top) [
+        | inl a ↦
+            let above : y < depth before = omega (arith, has.deep) in
+            ap (λ r. in_runs r x) (more.above y above) ∙ has.points x y above
+        | inr a ↦
+            let y_in : y < end = omega (arith, more.deep) in
+            ap (λ r. in_runs r x) (more.last y (omega (arith, has.deep)) y_in) ∙ rounded x
+            ∙ ap (λ p. tile_columns t w p x) (fun_ext united)
+            ∙ tiles_of_rows t w h old top same_to end x y some deep within start is same a y_in
+      ];
+    }
