@@ -1,17 +1,23 @@
 -- Bands as the grid of a set.
-use Rattle.std.proofs.Common.{◌≡◌, ℕ, ◌+◌, ◌-◌, ◌<◌, ◌≤◌, Bool, true, false, not, ◌&&◌, ◌||◌, nat_le, nat_lt, if◌then◌else◌, cond, sym, ap, ◌∙◌, refl, subst, arith, inl, inr}
-use Rattle.std.proofs.lemmas.Bool.{and_parts, leb-true, ltb-true, cases_Bool, cond-true, cond-false}
+use Rattle.std.proofs.Common.{◌≡◌, ℕ, ◌+◌, ◌-◌, ◌/◌, ◌<◌, ◌≤◌, ℤ, pos, negsuc, List, [], Bool, true, false, not, ◌&&◌, ◌||◌, nat_le, nat_lt, if◌then◌else◌, cond, sym, ap, ◌∙◌, refl, subst, arith, inl, inr}
+use Rattle.std.proofs.lemmas.Bool.{and_parts, leb-true, ltb-true, cases_Bool, cond-true, cond-false, lt-ltb}
+use Rattle.std.proofs.lemmas.Bool.Decides.{nat_tests}
+use Rattle.dd_geom.specs.declared.rect.Move.{Move}
 use Rattle.dd_geom.specs.declared.rect.Sides.{Sides}
-use Rattle.dd_geom.specs.Rect.{between, AreInside}
+use Rattle.dd_geom.specs.Rect.{between, AreInside, place, sides, spans_inside, is_inside, source_rect, is_move_inside}
 use Rattle.dd_geom.specs.Grid.{Grid, grid}
 use Rattle.dd_geom.proofs.GridLemmas.{value_at-grid, grid_from_agree}
-use Rattle.dd_bits.specs.Area.{is_in}
+use Rattle.dd_geom.proofs.RectLemmas.{IsMoveInside, IsMoveInside-test}
+use Rattle.dd_bits.specs.Area.{is_in, nowhere}
+use Rattle.dd_bits.specs.Tiles.{tile_has, tiles}
 use Rattle.dd_region.specs.declared.rows.Rows.{Rows}
 use Rattle.dd_region.specs.declared.sweep.Inside.{Inside}
 use Rattle.dd_region.specs.declared.sweep.Inside.TheVariants.{Nothing, Whole, Source}
 use Rattle.dd_region.specs.declared.sweep.Patch.{Patch}
-use Rattle.dd_region.specs.Rows.{depth, has_point}
+use Rattle.dd_region.specs.Runs.{in_runs}
+use Rattle.dd_region.specs.Rows.{row_at, depth, has_point}
 use Rattle.dd_region.specs.Sweep.{inside_has, with_patch, HasSource, IsPatch, HasPatch}
+use Rattle.dd_region.specs.Tiling.{HasTiles}
 use Rattle.dd_region.specs.Kept.{patched}
 
 -- a point between four sides
@@ -62,3 +68,42 @@ patched_grid p w h old new g is patch deep has =
     grid_from_agree w h (has_point new) (with_patch p (is_in (grid w h (has_point old)))) (λ x y a b.
     has.points x y (omega (arith, has.deep)) ∙ patch-same p w h x y (has_point old) patch a b)
     ∙ ap (λ v. patched v p) is
+
+-- rows that have no column are the empty set
+pub empty_grid :
+    (w h : ℕ) (s : Rows) → ((y : ℕ) → y < h → row_at s y ≡ []) → grid w h (has_point s) ≡ nowhere w h
+empty_grid w h s none =
+    grid_from_agree w h (has_point s) (λ x y. false) (λ x y a b. ap (λ r. in_runs r x) (none y b))
+
+-- rounded rows are the rounded set
+pub tiles_grid :
+    (t w h : ℕ) (old new : Rows) (g : Grid Bool) → grid w h (has_point old) ≡ g → HasTiles t w h old h new
+    → grid w h (has_point new) ≡ tiles t g
+unfolding tiles
+tiles_grid t w h old new g is has =
+    grid_from_agree w h (has_point new) (λ x y. tile_has (grid w h (has_point old)) t (x / t) (y / t)) (λ x y a b.
+    has.points x y (omega (arith, has.deep))
+    ∙ ap (λ c. c && tile_has (grid w h (has_point old)) t (x / t) (y / t)) (lt-ltb x w a))
+    ∙ ap (tiles t) is
+
+-- a span inside begins before it ends
+span_some : (from to : ℤ) (n : ℕ) → spans_inside from to n ≡ true → place from < place to
+span_some (pos a) (pos b) n e = grind (arith, nat_tests)
+span_some (pos a) (negsuc b) n e = absurd (grind (arith, nat_tests))
+span_some (negsuc a) to n e = absurd (grind (arith, nat_tests))
+
+-- a move that lies inside is a patch
+pub IsPatch-move :
+    (m : Move) (w h : ℕ) (p : Patch) → is_move_inside m w h ≡ true → p.sides ≡ sides m.dest
+    → p.inside ≡ Source (place m.source.x) (place m.source.y) → IsPatch p w h
+IsPatch-move m w h p e is from =
+    let inside : IsMoveInside m w h = IsMoveInside-test m w h e in
+    let dest = and_parts (is_inside m.dest w h) (is_inside (source_rect m) w h) e in
+    let across = and_parts (spans_inside m.dest.left m.dest.right w) (spans_inside m.dest.top m.dest.bottom h) dest.0 in
+    let there : HasSource (Source (place m.source.x) (place m.source.y)) (sides m.dest) w h = (inside.across, inside.down) in
+    record {
+      sides = subst (λ s. AreInside s w h) (sym is) inside.dest;
+      some = subst (λ (s : Sides). s.left < s.right) (sym is) (span_some m.dest.left m.dest.right w across.0);
+      source = subst (λ s. HasSource p.inside s w h) (sym is)
+          (subst (λ i. HasSource i (sides m.dest) w h) (sym from) there);
+    }

@@ -2,10 +2,13 @@
 
 ghost use Rattle.std.specs.Prelude.{◌≡◌, OnOk, OnErr};
 ghost use Rattle.dd_geom.specs.Grid.{SameSize};
+ghost use Rattle.dd_geom.specs.Rect.{place};
 
+use crate::listing::{push_rects, same_to};
 use crate::rows::Rows;
-use crate::run::Run;
+use crate::run::{Run, has_column};
 use crate::sweep::{Inside, Patch, sweep};
+use crate::tiling::{Tiles, round_rows};
 use dd_bits::Area;
 use dd_geom::{Move, Rect, Rects, sides_of};
 use std::alloc::{AllocError, Global};
@@ -26,6 +29,7 @@ pub struct Bands {
     rows: Rows,
     spare: Rows,
     row: Vec<Run>,
+    spare_row: Vec<Run>,
 }
 
 impl Model for Bands {
@@ -57,5 +61,89 @@ impl Bands {
         sweep(&mut self.spare, &mut self.row, &self.rows, width, height, patch)?;
         std::mem::swap(&mut self.rows, &mut self.spare);
         Ok(())
+    }
+}
+
+/// What a move brings between the sides of its destination.
+fn source_of(m: Move) -> Inside
+    ensures { result ≡ Inside.Source (place m.source.x) (place m.source.y) }
+{
+    Inside::Source {
+        column: usize::try_from(m.source.x).unwrap_or(0),
+        row: usize::try_from(m.source.y).unwrap_or(0),
+    }
+}
+
+impl Area for Bands {
+    ghost points = { λ b. b };
+
+    fn empty(alloc: Global, w: u32, h: u32) -> Result<Bands, AllocError> {
+        let row = Vec::new(alloc);
+        let mut rows = Rows::new(alloc);
+        rows.close(&row, h as usize)?;
+        Ok(Bands {
+            width: w,
+            height: h,
+            rows,
+            spare: Rows::new(alloc),
+            row,
+            spare_row: Vec::new(alloc),
+        })
+    }
+
+    fn add(&mut self, r: Rect) -> Result<(), AllocError> {
+        self.write(Patch {
+            sides: sides_of(r),
+            inside: Inside::Whole,
+        })
+    }
+
+    fn remove(&mut self, r: Rect) -> Result<(), AllocError> {
+        self.write(Patch {
+            sides: sides_of(r),
+            inside: Inside::Nothing,
+        })
+    }
+
+    fn move_over(&mut self, m: Move) -> Result<(), AllocError> {
+        self.write(Patch {
+            sides: sides_of(m.dest),
+            inside: source_of(m),
+        })
+    }
+
+    fn tiles(&mut self, t: u32) -> Result<(), AllocError> {
+        let tiles = Tiles {
+            side: t as usize,
+            width: self.width as usize,
+            height: self.height as usize,
+        };
+        round_rows(&mut self.spare, &mut self.row, &mut self.spare_row, &self.rows, tiles)?;
+        std::mem::swap(&mut self.rows, &mut self.spare);
+        Ok(())
+    }
+
+    fn has(&self, x: u32, y: u32) -> bool {
+        if y >= self.height {
+            return false;
+        }
+        let row = self.rows.at(y as usize, 0);
+        x < self.width && has_column(row.runs, x as usize)
+    }
+
+    /// Takes the list's memory from the area's own allocator.
+    fn list(&self) -> Result<Rects, AllocError> {
+        let height = self.height as usize;
+        let mut out = Vec::new(*self.row.allocator());
+        let mut y = 0;
+        let mut band = 0;
+        while y < height {
+            let row = self.rows.at(y, band);
+            let end = same_to(&self.rows, height, y, row);
+            push_rects(&mut out, row.runs, y, end)?;
+            band = row.band;
+            y = end;
+        }
+        Ok(Rects::from_vec(out))
     }
 }

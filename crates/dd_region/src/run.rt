@@ -20,6 +20,20 @@ pub struct Window {
     pub to: usize,
 }
 
+/// Whether a run has the column.
+fn run_has(run: Run, x: usize) -> bool
+    ensures { result ≡ in_run run x }
+{
+    run.left <= x && x < run.right
+}
+
+/// Whether one of the runs has the column.
+pub fn has_column(runs: &[Run], x: usize) -> bool
+    ensures { result ≡ in_runs runs.now x }
+{
+    runs.iter().any(|run| run_has(*run, x))
+}
+
 /// Adds a run at the right end of a row: one that begins no further left than any run of it. Where
 /// it touches the last one, or overlaps it, the two are joined.
 pub fn push_run(row: &mut Vec<Run>, run: Run) -> Result<(), AllocError>
