@@ -3,18 +3,20 @@ use Rattle.std.proofs.Common.{◌≡◌, ◌≢◌, ℕ, ◌<◌, ◌≤◌, Lis
 use Rattle.std.proofs.Math.Path.{fun_ext}
 use Rattle.std.specs.Prelude.{All}
 use Rattle.std.proofs.lemmas.Bool.{cases_lt}
+use Rattle.std.proofs.lemmas.List.Elements.{All-weaker}
 use Rattle.std.proofs.lemmas.List.FromFn.{length-map-range_with_len}
 use Rattle.dd_geom.specs.declared.rect.Rect.{Rect}
+use Rattle.dd_geom.specs.declared.rect.TheConstants.{MAX_SIDE}
 use Rattle.dd_geom.specs.Grid.{Grid, grid, row}
-use Rattle.dd_geom.proofs.GridLemmas.{value_at-grid, value_at-right, row-grid}
-use Rattle.dd_bits.specs.Area.{is_in}
+use Rattle.dd_geom.proofs.GridLemmas.{length-cells, value_at-grid, value_at-right, row-grid}
+use Rattle.dd_bits.specs.Area.{is_in, IsArea}
 use Rattle.dd_bits.specs.CanonicalList.{row_runs, same_rows, band_end, is_marked}
 use Rattle.dd_bits.proofs.RowRuns.{not_true, row_runs-row}
 use Rattle.dd_bits.proofs.Bands.{same_rows-at, same_rows-from, band_end-found, IsListed, IsListed-more}
 use Rattle.dd_region.specs.declared.run.Run.{Run}
 use Rattle.dd_region.specs.declared.rows.Rows.{Rows}
 use Rattle.dd_region.specs.Runs.{in_runs, IsRow}
-use Rattle.dd_region.specs.Rows.{row_at, depth, AreRows, has_point}
+use Rattle.dd_region.specs.Rows.{row_at, has_point}
 use Rattle.dd_region.specs.Kept.{AreKept}
 use Rattle.dd_region.specs.Listing.{run_rect, IsSameTo}
 use Rattle.dd_region.proofs.BandLemmas.{IsRow-at}
@@ -84,3 +86,24 @@ listed_more g s y e now next of is pushed listed =
     ∙ sym (row_runs-row g y y e (row g y) refl long l) in
     IsListed-more g y e (row g y) now next (pushed ∙ ap (λ v. now ++ v) rects) listed (band_end-same g s y e of is) refl
     long l
+
+-- what is kept as bands is a set of a surface, and no run ends past the longest side
+pub AreRowsOf-from :
+    (w h : ℕ) (s : Rows) (g : Grid Bool) → AreKept w h s → grid w h (has_point s) ≡ g → AreRowsOf g s
+AreRowsOf-from w h s g kept is = record {
+  kept = subst (λ (v : Grid Bool). AreKept v.width v.height s) is kept;
+  points = subst (λ (v : Grid Bool). grid v.width v.height (has_point s) ≡ v) is refl;
+}
+
+pub IsArea-kept : (g : Grid Bool) (s : Rows) → AreRowsOf g s → IsArea g
+IsArea-kept g s of =
+    subst IsArea of.points
+    (record { size = of.kept.size; whole = length-cells g.width g.height (has_point s) })
+
+pub ends_short :
+    (g : Grid Bool) (s : Rows) (y : ℕ) (runs : List Run) → AreRowsOf g s → y < g.height → runs ≡ row_at s y
+    → All (λ r. r.right ≤ MAX_SIDE) runs
+ends_short g s y runs of l e =
+    subst (All (λ r. r.right ≤ MAX_SIDE)) (sym e)
+    (All-weaker (λ (r : Run). r.right ≤ g.width) (λ (r : Run). r.right ≤ MAX_SIDE)
+    (λ r a. omega (arith, a, of.kept.size.width)) (row_at s y) (within_is g s y of l))

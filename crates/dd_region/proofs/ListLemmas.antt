@@ -1,15 +1,14 @@
 -- The runs of a row are its maximal runs, so the bands give the canonical list.
-use Rattle.std.proofs.Common.{◌≡◌, ◌≢◌, ℕ, zero, suc, ◌+◌, ◌-◌, ◌<◌, ◌≤◌, List, [], ◌∷◌, ◌++◌, Bool, true, false, ◌||◌, ◌&&◌, nat_le, nat_lt, map, length, get_or, sym, ap, ◌∙◌, refl, subst, arith, inl, inr, append_assoc}
+use Rattle.std.proofs.Common.{◌≡◌, ℕ, suc, ◌-◌, ◌<◌, ◌≤◌, List, [], ◌∷◌, ◌++◌, Bool, true, false, ◌||◌, map, get_or, sym, ap, ◌∙◌, refl, arith, inl, inr, append_assoc}
 use Rattle.std.proofs.Math.Path.{fun_ext}
 use Rattle.std.specs.Prelude.{All}
-use Rattle.std.specs.List.{list_any}
 use Rattle.std.proofs.lemmas.Bool.{cases_lt, false≢true, or_left, or_from, and_from, and_left, and_right, lt-ltb, le-ltb, le-leb, lt-leb}
 use Rattle.std.proofs.lemmas.List.{append-nil}
-use Rattle.std.proofs.lemmas.List.Elements.{All-head, All-tail, All-weaker}
+use Rattle.std.proofs.lemmas.List.Elements.{All-tail, All-weaker}
 use Rattle.std.proofs.lemmas.List.Folds.{list_any_none, list_any_at}
 use Rattle.dd_geom.specs.declared.rect.Rect.{Rect}
 use Rattle.dd_geom.specs.Rect.{place}
-use Rattle.dd_bits.specs.CanonicalList.{rect_from, row_runs, HasNone, IsRun}
+use Rattle.dd_bits.specs.CanonicalList.{row_runs, HasNone, IsRun}
 use Rattle.dd_bits.proofs.RowRuns.{runs_from, IsDone, IsDone-more, IsDone-all}
 use Rattle.dd_region.specs.declared.run.Run.{Run}
 use Rattle.dd_region.specs.Runs.{in_run, in_runs, IsRow}

@@ -1,8 +1,6 @@
 -- Rows as lists of runs: one run more at the right end.
 use Rattle.std.proofs.Common.{◌≡◌, ℕ, ◌+◌, ◌-◌, ◌<◌, ◌≤◌, max, List, [], ◌∷◌, ◌++◌, Bool, true, false, ◌||◌, ◌&&◌, nat_le, nat_lt, length, get_or, set, take, sym, ap, ◌∙◌, refl, arith, inl, inr}
-use Rattle.std.specs.Prelude.{All}
-use Rattle.std.specs.List.{list_any, AllPairs}
-use Rattle.std.proofs.lemmas.Bool.{cases_lt, cases_Bool, or_left}
+use Rattle.std.proofs.lemmas.Bool.{cases_lt}
 use Rattle.std.proofs.lemmas.Bool.Decides.{nat_tests}
 use Rattle.std.proofs.lemmas.List.{take_more, take_more_set, take_all, length-set, get_or_read}
 use Rattle.std.proofs.lemmas.List.Elements.{All-push}

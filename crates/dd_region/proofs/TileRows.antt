@@ -1,12 +1,11 @@
 -- Rows rounded to tiles: the columns that rows have together, and where a row of tiles ends.
-use Rattle.std.proofs.Common.{◌≡◌, ℕ, zero, suc, ◌+◌, ◌-◌, ◌*◌, ◌/◌, ◌<◌, ◌≤◌, min, max, List, Bool, true, false, ◌||◌, ◌&&◌, nat_lt, sym, ap, ◌∙◌, refl, subst, arith, inl, inr}
+use Rattle.std.proofs.Common.{◌≡◌, ℕ, ◌+◌, ◌-◌, ◌*◌, ◌/◌, ◌<◌, ◌≤◌, min, max, List, Bool, true, false, ◌||◌, nat_lt, sym, ap, ◌∙◌, refl, arith, inl, inr}
 use Rattle.std.proofs.Math.Path.{fun_ext}
 use Rattle.std.specs.List.{range_with_len, list_any}
-use Rattle.std.proofs.lemmas.Bool.{cases_lt, cases_eq, false≢true, or_cases, or_left, or_right, and_parts, and_from, ltb-true, lt-ltb}
+use Rattle.std.proofs.lemmas.Bool.{cases_lt, false≢true, or_cases, or_left, or_right, and_parts, and_from}
 use Rattle.std.proofs.lemmas.Nat.{div-mul-add}
 use Rattle.dd_geom.specs.Grid.{Grid, grid}
 use Rattle.dd_geom.proofs.GridLemmas.{value_at-grid}
-use Rattle.dd_bits.specs.Area.{is_in}
 use Rattle.dd_bits.specs.Tiles.{tile_has}
 use Rattle.dd_bits.proofs.RowRuns.{not_true}
 use Rattle.dd_bits.proofs.TileLemmas.{HoldsAt-range, list_any-range, same_bool, tile_has-from, tile_has-to, IsOn-from}
@@ -15,7 +14,7 @@ use Rattle.dd_region.specs.declared.rows.Rows.{Rows}
 use Rattle.dd_region.specs.Runs.{in_runs}
 use Rattle.dd_region.specs.Rows.{row_at, depth, has_point, AreWithin, HasBandMore}
 use Rattle.dd_region.specs.Tiling.{tile_columns, columns_between, tile_point, IsTilesEnd, HasTiles}
-use Rattle.dd_region.proofs.TileRuns.{tile_start, tile_order, multiples_apart}
+use Rattle.dd_region.proofs.TileRuns.{tile_start, tile_order}
 
 -- further rows with the runs of one
 pub columns_between-more :
@@ -107,14 +106,15 @@ tile_within :
 tile_within t h top same_to end y z some start is a b l e =
     let at_y = tile_start t y some in
     let at_z = tile_start t z some in
-    let same : z / t * t ≡ y / t * t = ap (λ n. n * t) e in
-    (omega (arith, at_z.from, tile_order t top y some a),
-    elim (cases_lt z end) [
-      | inl c ↦ c
-      | inr c ↦
-          let order = tile_order t end z some c in
-          absurd (omega (arith, is.whole (omega arith), order, at_y.from))
-    ])
+    let same : z / t * t ≡ y / t * t = ap (λ n. n * t) e in (
+      omega (arith, at_z.from, tile_order t top y some a),
+      elim (cases_lt z end) [
+        | inl c ↦ c
+        | inr c ↦
+            let order = tile_order t end z some c in
+            absurd (omega (arith, is.whole (omega arith), order, at_y.from))
+      ],
+    )
 
 -- columns of the tiles of some rows together are the points of the tiles of each
 pub tiles_of_rows :

@@ -1,5 +1,5 @@
 -- Runs rounded to tiles: the columns of a run that is as wide as its tiles.
-use Rattle.std.proofs.Common.{◌≡◌, ℕ, zero, suc, ◌+◌, ◌-◌, ◌*◌, ◌/◌, ◌%◌, ◌<◌, ◌≤◌, min, max, List, [], ◌∷◌, Bool, true, false, ◌||◌, ◌&&◌, nat_le, nat_lt, length, get_or, take, sym, ap, ◌∙◌, refl, subst, arith, inl, inr}
+use Rattle.std.proofs.Common.{◌≡◌, ℕ, ◌+◌, ◌-◌, ◌*◌, ◌/◌, ◌<◌, ◌≤◌, min, max, List, [], ◌∷◌, Bool, true, false, ◌||◌, ◌&&◌, nat_le, nat_lt, length, get_or, take, sym, ap, ◌∙◌, refl, arith, inl, inr}
 use Rattle.std.specs.List.{range_with_len, list_any}
 use Rattle.std.proofs.Math.Path.{fun_ext}
 use Rattle.std.proofs.Math.Nat.{mod-lt}
@@ -8,7 +8,7 @@ use Rattle.std.proofs.lemmas.Nat.{div-add-mod', mul-le}
 use Rattle.std.proofs.lemmas.List.{get_or_default}
 use Rattle.std.proofs.lemmas.List.Elements.{All-weaker}
 use Rattle.std.proofs.lemmas.List.Folds.{list_any_more}
-use Rattle.dd_bits.proofs.TileLemmas.{HoldsAt, HoldsAt-range, list_any-range, same_bool}
+use Rattle.dd_bits.proofs.TileLemmas.{HoldsAt-range, list_any-range, same_bool}
 use Rattle.dd_region.specs.declared.run.Run.{Run}
 use Rattle.dd_region.specs.Runs.{in_run, in_runs, IsRow, BeginBy}
 use Rattle.dd_region.specs.Tiling.{tile_columns}

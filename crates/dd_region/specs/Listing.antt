@@ -1,5 +1,5 @@
 -- How the list is made of bands, for private functions alone.
-use Rattle.std.specs.Prelude.{◌≡◌, ◌≢◌, ℕ, ◌<◌, ◌≤◌, List, map}
+use Rattle.std.specs.Prelude.{◌≡◌, ◌≢◌, ℕ, ◌<◌, ◌≤◌}
 use Rattle.dd_geom.specs.declared.rect.Rect.{Rect}
 use Rattle.dd_bits.specs.CanonicalList.{rect_from}
 use Rattle.dd_region.specs.declared.run.Run.{Run}

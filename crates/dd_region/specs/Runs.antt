@@ -1,5 +1,5 @@
 -- Runs of columns, and rows of a set as lists of them.
-use Rattle.std.specs.Prelude.{◌≡◌, ℕ, ◌+◌, ◌-◌, ◌<◌, ◌≤◌, min, max, List, Bool, ◌&&◌, nat_le, nat_lt, All}
+use Rattle.std.specs.Prelude.{ℕ, ◌+◌, ◌-◌, ◌<◌, ◌≤◌, min, max, List, Bool, ◌&&◌, nat_le, nat_lt, All}
 use Rattle.std.specs.List.{list_any, AllPairs}
 use Rattle.dd_region.specs.declared.run.Run.{Run}
 use Rattle.dd_region.specs.declared.run.Window.{Window}

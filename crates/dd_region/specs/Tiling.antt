@@ -6,7 +6,7 @@ use Rattle.dd_bits.specs.Tiles.{tile_has}
 use Rattle.dd_region.specs.declared.run.Run.{Run}
 use Rattle.dd_region.specs.Runs.{in_runs, IsRow, BeginBy}
 use Rattle.dd_region.specs.declared.rows.Rows.{Rows}
-use Rattle.dd_region.specs.Rows.{row_at, depth, AreRows, has_point, HavePoints}
+use Rattle.dd_region.specs.Rows.{depth, AreRows, has_point, HavePoints}
 
 -- the columns of a row of w columns whose tile of side t has a column of it
 abbrev pub tile_columns : ℕ → ℕ → (ℕ → Bool) → ℕ → Bool

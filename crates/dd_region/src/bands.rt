@@ -58,7 +58,14 @@ impl Bands {
     {
         let width = self.width as usize;
         let height = self.height as usize;
-        sweep(&mut self.spare, &mut self.row, &self.rows, width, height, patch)?;
+        sweep(
+            &mut self.spare,
+            &mut self.row,
+            &self.rows,
+            width,
+            height,
+            patch,
+        )?;
         std::mem::swap(&mut self.rows, &mut self.spare);
         Ok(())
     }
@@ -118,7 +125,13 @@ impl Area for Bands {
             width: self.width as usize,
             height: self.height as usize,
         };
-        round_rows(&mut self.spare, &mut self.row, &mut self.spare_row, &self.rows, tiles)?;
+        round_rows(
+            &mut self.spare,
+            &mut self.row,
+            &mut self.spare_row,
+            &self.rows,
+            tiles,
+        )?;
         std::mem::swap(&mut self.rows, &mut self.spare);
         Ok(())
     }

@@ -1,6 +1,7 @@
 //! The rectangles of bands.
 
 ghost use Rattle.std.specs.Prelude.{◌≡◌, ℕ, ◌≤◌, ◌<◌, ◌++◌, ◌↔◌, IsTrue, OnOk, map, All};
+ghost use Rattle.dd_region.specs.Runs.{IsRow};
 ghost use Rattle.dd_region.specs.Rows.{row_at, depth, AreRows, ArePassed};
 ghost use Rattle.dd_region.specs.Listing.{run_rect, IsSameTo};
 
@@ -64,7 +65,7 @@ pub fn push_rects(
     top: usize,
     bottom: usize,
 ) -> Result<(), AllocError>
-    requires left { All (λ r. r.left ≤ MAX_SIDE) runs.now }
+    requires row { IsRow runs.now }
     requires right { All (λ r. r.right ≤ MAX_SIDE) runs.now }
     requires top { top ≤ MAX_SIDE }
     requires bottom { bottom ≤ MAX_SIDE }

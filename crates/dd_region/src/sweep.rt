@@ -120,7 +120,10 @@ fn push_inside(
             push_run(row, run)?;
             Ok(all)
         }
-        Inside::Source { column, row: source } => push_source(row, old, sides, column, source, y, from),
+        Inside::Source {
+            column,
+            row: source,
+        } => push_source(row, old, sides, column, source, y, from),
     }
 }
 

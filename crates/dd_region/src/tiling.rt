@@ -29,12 +29,7 @@ fn round(run: Run, side: usize, width: usize) -> Run
 }
 
 /// Makes a row of the rounded runs of another.
-fn round_runs(
-    row: &mut Vec<Run>,
-    runs: &[Run],
-    side: usize,
-    width: usize,
-) -> Result<(), AllocError>
+fn round_runs(row: &mut Vec<Run>, runs: &[Run], side: usize, width: usize) -> Result<(), AllocError>
     requires side { 1 ≤ side }
     requires runs { IsRow runs.now }
     requires within { All (λ r. r.right ≤ width) runs.now }

@@ -1,6 +1,5 @@
-use Rattle.std.proofs.Common.{◌≡◌, ◌<◌, ◌≤◌, false, ℕ, ap, ◌∙◌, arith, subst, sym}
+use Rattle.std.proofs.Common.{◌≡◌, ◌≤◌, false, ℕ, ap, ◌∙◌, arith, subst, sym}
 use Rattle.dd_region.specs.Runs.{in_runs, IsRow}
-use Rattle.dd_region.specs.Tiling.{columns_between, tile_columns}
 use Rattle.dd_region.proofs.ListLemmas.{ends_within}
 use Rattle.dd_region.proofs.TileRows.{columns_between-within, HasTiles-more}
 use Rattle.dd_region.proofs.tiling.round_rows.Goals as goal

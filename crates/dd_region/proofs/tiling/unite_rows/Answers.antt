@@ -1,4 +1,4 @@
-use Rattle.std.proofs.Common.{◌≡◌, ◌<◌, ap, ◌∙◌, arith, subst, sym}
+use Rattle.std.proofs.Common.{◌≡◌, ap, ◌∙◌, arith, subst, sym}
 use Rattle.dd_region.specs.Runs.{in_runs, IsRow}
 use Rattle.dd_region.proofs.TileRows.{united_more}
 use Rattle.dd_region.proofs.tiling.unite_rows.Goals as goal
