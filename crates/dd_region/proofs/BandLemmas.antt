@@ -1,10 +1,10 @@
 -- Bands: the one that a row lies in, and one band more.
-use Rattle.std.proofs.Common.{◌≡◌, ℕ, zero, suc, ◌+◌, ◌-◌, ◌<◌, ◌≤◌, max, List, [], ◌∷◌, ◌++◌, nat_lt, if◌then◌else◌, length, get_or, take, drop, sym, ap, ◌∙◌, refl, subst, arith, inl, inr, length-append, length-drop}
+use Rattle.std.proofs.Common.{◌≡◌, ℕ, zero, suc, ◌+◌, ◌-◌, ◌<◌, ◌≤◌, max, List, [], ◌∷◌, ◌++◌, nat_lt, if◌then◌else◌, length, get_or, set, take, drop, sym, ap, ◌∙◌, refl, subst, arith, inl, inr, length-append, length-drop}
 use Rattle.std.specs.Prelude.{All}
 use Rattle.std.specs.List.{AllWithin}
 use Rattle.std.proofs.lemmas.Bool.{cases_lt, lt-ltb, le-ltb, cond-true, cond-false}
-use Rattle.std.proofs.lemmas.List.{take-append-le, drop-append-le, drop_at, take_all, get_or_read}
-use Rattle.std.proofs.lemmas.List.Elements.{All-head, All-tail, All-push, All-weaker}
+use Rattle.std.proofs.lemmas.List.{take-append-le, drop-append-le, drop_at, take_all, take_more, take_more_set, length-set, get_or_read}
+use Rattle.std.proofs.lemmas.List.Elements.{All-head, All-tail, All-push, All-set, All-weaker}
 use Rattle.dd_region.specs.declared.run.Run.{Run}
 use Rattle.dd_region.specs.declared.rows.Band.{Band}
 use Rattle.dd_region.specs.declared.rows.Rows.{Rows}
@@ -161,3 +161,42 @@ IsRow-runs_at runs (b ∷ bs) y h =
 -- each row is a row
 pub IsRow-at : (s : Rows) (y : ℕ) → AreRows s → IsRow (row_at s y)
 IsRow-at s y is = IsRow-runs_at s.runs.items s.bands.items y is
+
+-- the last band made longer
+pub HasBandMore-longer :
+    (old new : Rows) (i j bottom : ℕ) (d k : Band) → AreRows old → i + 1 ≡ length old.bands.items → i ≡ j
+    → k ≡ get_or old.bands.items i k → depth old ≤ bottom → new.runs.items ≡ old.runs.items
+    → new.bands.items ≡ set old.bands.items i (record k { bottom = bottom })
+    → HasBandMore old (band_runs old.runs.items (get_or old.bands.items j d)) bottom new
+HasBandMore-longer old new i j bottom d k is n at e deep runs_is bands_is =
+    let runs = old.runs.items in
+    let bands = old.bands.items in
+    let above : List Band = take i bands in
+    let longer : Band = record k { bottom = bottom } in
+    let row : List Run = band_runs runs k in
+    let row_is : row ≡ band_runs runs (get_or bands j d) =
+    ap (band_runs runs) (get_or_read bands i k (omega arith) e d ∙ ap (λ m. get_or bands m d) at) in
+    let before : bands ≡ above ++ k ∷ [] =
+    sym (take_all (i + 1) bands (omega arith)) ∙ take_more bands i k (omega arith)
+    ∙ ap (λ v. above ++ v ∷ []) (sym e) in
+    let after : set bands i longer ≡ above ++ longer ∷ [] =
+    sym (take_all (i + 1) (set bands i longer) (omega (arith, length-set bands i longer)))
+    ∙ take_more_set bands i longer (omega arith) in
+    let k_is : IsBand runs k = subst (IsBand runs) (sym e) (is i k (omega arith)) in
+    let deep_was : depth old ≡ max (bands_depth above) k.bottom = ap bands_depth before ∙ depth-push above k in
+    let same : (y : ℕ) → row_at new y ≡ runs_at runs (above ++ longer ∷ []) y =
+    λ y. ap (λ r. runs_at r new.bands.items y) runs_is ∙ ap (λ bs. runs_at runs bs y) (bands_is ∙ after) in
+    let was : (y : ℕ) → row_at old y ≡ runs_at runs (above ++ k ∷ []) y = λ y. ap (λ bs. runs_at runs bs y) before in
+    record {
+      rows = subst (λ r. All (IsBand r) new.bands.items) (sym runs_is)
+          (subst (All (IsBand runs)) (sym bands_is)
+          (All-set (IsBand runs) bands i longer
+          (record { order = k_is.order; within = k_is.within; row = k_is.row }) is));
+      deep = ap bands_depth (bands_is ∙ after) ∙ omega (arith, depth-push above longer, deep_was, deep);
+      above = λ y l. elim (cases_lt y (bands_depth above)) [
+        | inl a ↦ same y ∙ runs_at-above runs above longer y a ∙ sym (runs_at-above runs above k y a) ∙ sym (was y)
+        | inr a ↦ same y ∙ runs_at-last runs above longer y a (omega (arith, deep_was, deep, l))
+            ∙ sym (runs_at-last runs above k y a (omega (arith, deep_was, l))) ∙ sym (was y)
+      ];
+      last = λ y l u. same y ∙ runs_at-last runs above longer y (omega (arith, deep_was, l)) u ∙ row_is;
+    }

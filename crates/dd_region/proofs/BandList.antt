@@ -30,14 +30,17 @@ pub record AreRowsOf (g : Grid Bool) (s : Rows) : Type 0 where
 pub is_in-point : (g : Grid Bool) (s : Rows) (x y : ℕ) → AreRowsOf g s → y < g.height → is_in g x y ≡ has_point s x y
 is_in-point g s x y of l =
     elim (cases_lt x g.width) [
-      | inl a ↦ ap (λ (v : Grid Bool). is_in v x y) (sym of.points) ∙ value_at-grid false g.width g.height (has_point s) x y a l
+      | inl a ↦ ap (λ (v : Grid Bool). is_in v x y) (sym of.points)
+          ∙ value_at-grid false g.width g.height (has_point s) x y a l
       | inr a ↦ value_at-right false g x y a ∙ sym (of.kept.within x y (omega (arith, of.kept.deep)) a)
     ]
 
 row_is : (g : Grid Bool) (s : Rows) (y : ℕ) → AreRowsOf g s → IsRow (row_at s y)
 row_is g s y of = IsRow-at s y of.kept.rows
 
-pub within_is : (g : Grid Bool) (s : Rows) (y : ℕ) → AreRowsOf g s → y < g.height → All (λ r. r.right ≤ g.width) (row_at s y)
+pub within_is :
+    (g : Grid Bool) (s : Rows) (y : ℕ) → AreRowsOf g s → y < g.height
+    → All (λ r. r.right ≤ g.width) (row_at s y)
 within_is g s y of l =
     ends_within (row_at s y) g.width (row_is g s y of) (λ x a. of.kept.within x y (omega (arith, of.kept.deep)) a)
 

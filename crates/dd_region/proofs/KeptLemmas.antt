@@ -100,7 +100,8 @@ IsPatch-move m w h p e is from =
     let inside : IsMoveInside m w h = IsMoveInside-test m w h e in
     let dest = and_parts (is_inside m.dest w h) (is_inside (source_rect m) w h) e in
     let across = and_parts (spans_inside m.dest.left m.dest.right w) (spans_inside m.dest.top m.dest.bottom h) dest.0 in
-    let there : HasSource (Source (place m.source.x) (place m.source.y)) (sides m.dest) w h = (inside.across, inside.down) in
+    let there : HasSource (Source (place m.source.x) (place m.source.y)) (sides m.dest) w h =
+    (inside.across, inside.down) in
     record {
       sides = subst (λ s. AreInside s w h) (sym is) inside.dest;
       some = subst (λ (s : Sides). s.left < s.right) (sym is) (span_some m.dest.left m.dest.right w across.0);

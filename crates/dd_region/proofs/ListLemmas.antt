@@ -60,7 +60,8 @@ runs_found :
     → ((x : ℕ) → from ≤ x → p x ≡ in_runs rs x)
     → now ++ map (run_rect top bottom) rs ≡ before ++ row_runs p w top bottom
 runs_found p w top bottom from [] before now done is within after same =
-    append-nil now ∙ IsDone-all p w top bottom from before now done (λ x a b e. absurd (false≢true (sym (same x a) ∙ e)))
+    append-nil now
+    ∙ IsDone-all p w top bottom from before now done (λ x a b e. absurd (false≢true (sym (same x a) ∙ e)))
 runs_found p w top bottom from (r ∷ rs) before now done is within after same =
     let some : r.left < r.right = is.some 0 r (omega arith) in
     let apart : All (λ s. r.right < s.left) rs = apart_first r rs is in
@@ -71,11 +72,13 @@ runs_found p w top bottom from (r ∷ rs) before now done is within after same =
     let run : IsRun p r.left r.right = record {
       some = some;
       marked = λ x a b. same x (omega arith) ∙ or_left _ _ (in_run-inside r x a b);
-      end = same r.right (omega arith) ∙ or_from _ _ (in_run-after r r.right (omega arith)) (in_runs-before rs r.right apart);
+      end = same r.right (omega arith)
+          ∙ or_from _ _ (in_run-after r r.right (omega arith)) (in_runs-before rs r.right apart);
     } in
     let next : List Rect = now ++ run_rect top bottom r ∷ [] in
     let more : IsDone p w top bottom r.right before next =
-    IsDone-more p w top bottom from r.left r.right before now next done none run begin (within 0 r (omega arith)) refl in
+    IsDone-more p w top bottom from r.left r.right before now next done none run begin
+    (within 0 r (omega arith)) refl in
     sym (append_assoc now (run_rect top bottom r ∷ []) (map (run_rect top bottom) rs))
     ∙ runs_found p w top bottom r.right rs before next more (IsRow-tail r rs is)
     (All-tail (λ (s : Run). s.right ≤ w) r rs within)
@@ -121,4 +124,5 @@ pub rows_tell :
     → ((x : ℕ) → in_runs rs x ≡ in_runs ss x) → rs ≡ ss
 rows_tell rs ss w a b within_a within_b same =
     same_maps 0 0 rs ss
-    (sym (runs_of_row rs w 0 0 a within_a) ∙ ap (λ p. row_runs p w 0 0) (fun_ext same) ∙ runs_of_row ss w 0 0 b within_b)
+    (sym (runs_of_row rs w 0 0 a within_a) ∙ ap (λ p. row_runs p w 0 0) (fun_ext same)
+    ∙ runs_of_row ss w 0 0 b within_b)

@@ -135,7 +135,9 @@ or_middle false false c d = refl
 
 list_any_or : (p q : ℕ → Bool) (xs : List ℕ) → list_any (λ a. p a || q a) xs ≡ (list_any p xs || list_any q xs)
 list_any_or p q [] = refl
-list_any_or p q (x ∷ xs) = ap (λ b. (p x || q x) || b) (list_any_or p q xs) ∙ or_middle (p x) (q x) (list_any p xs) (list_any q xs)
+list_any_or p q (x ∷ xs) =
+    ap (λ b. (p x || q x) || b) (list_any_or p q xs)
+    ∙ or_middle (p x) (q x) (list_any p xs) (list_any q xs)
 
 and_or : (a b c : Bool) → (a && (b || c)) ≡ ((a && b) || (a && c))
 and_or true b c = refl

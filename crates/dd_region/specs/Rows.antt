@@ -1,5 +1,5 @@
 -- The rows of a set as bands of equal rows.
-use Rattle.std.specs.Prelude.{◌≡◌, ℕ, ◌≤◌, ◌<◌, max, List, [], ◌∷◌, length, Bool, false, nat_lt, if◌then◌else◌, All}
+use Rattle.std.specs.Prelude.{◌≡◌, ℕ, ◌-◌, ◌≤◌, ◌<◌, max, List, [], ◌∷◌, length, slice_index_or, Bool, false, nat_lt, if◌then◌else◌, All}
 use Rattle.std.specs.List.{AllWithin, slice_range}
 use Rattle.dd_region.specs.declared.run.Run.{Run}
 use Rattle.dd_region.specs.declared.rows.Band.{Band}
@@ -25,6 +25,10 @@ bands_depth (b ∷ bs) = max b.bottom (bands_depth bs)
 
 abbrev pub depth : Rows → ℕ
 depth s = bands_depth s.bands.items
+
+-- the runs of the last band; d stands where there is none
+abbrev pub last_runs : Rows → Band → List Run
+last_runs s d = band_runs s.runs.items (slice_index_or s.bands.items (length s.bands.items - 1) d)
 
 -- a band's runs are some of all, and make a row
 pub record IsBand (runs : List Run) (b : Band) : Type 0 where

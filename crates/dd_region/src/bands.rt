@@ -17,11 +17,12 @@ use std::marker::Model;
 /// A set of points of a surface, as bands of equal rows and the runs of each.
 ///
 /// The bands cover all rows of the surface, and each begins where the one above it ends. A row has
-/// its runs from left to right, none of them empty and no two of them touching. Two bands that
-/// follow each other may be equal.
+/// its runs from left to right, none of them empty and no two of them touching. A band that is
+/// written with the runs of the one above it makes that one longer, so there are few; but nothing
+/// rests on it that two bands that follow each other differ.
 ///
-/// Each change is written beside what stands, and takes its place when it is complete. So a call that
-/// gets no memory leaves the set, and the memory of one change serves the next.
+/// Each change is written beside what stands, and takes its place when it is complete. So a call
+/// that gets no memory leaves the set, and the memory of one change serves the next.
 #[derive(Debug, Drop)]
 pub struct Bands {
     width: u32,

@@ -1,21 +1,14 @@
 //! The rectangles of bands.
 
-ghost use Rattle.std.specs.Prelude.{◌≡◌, ℕ, ◌≤◌, ◌<◌, ◌++◌, ◌↔◌, IsTrue, OnOk, map, All};
+ghost use Rattle.std.specs.Prelude.{◌≡◌, ℕ, ◌≤◌, ◌<◌, ◌++◌, OnOk, map, All};
 ghost use Rattle.dd_region.specs.Runs.{IsRow};
 ghost use Rattle.dd_region.specs.Rows.{row_at, depth, AreRows, ArePassed};
 ghost use Rattle.dd_region.specs.Listing.{run_rect, IsSameTo};
 
 use crate::rows::{Row, Rows};
-use crate::run::Run;
+use crate::run::{Run, same_runs};
 use dd_geom::{MAX_SIDE, Rect};
 use std::alloc::AllocError;
-
-/// Whether two rows have the same runs.
-fn same_runs(a: &[Run], b: &[Run]) -> bool
-    ensures { IsTrue result ↔ (a.now ≡ b.now) }
-{
-    a == b
-}
 
 /// The first row below row `y` that has other runs, or the height; row `y` is `first`.
 pub fn same_to(rows: &Rows, height: usize, y: usize, first: Row<'_>) -> usize

@@ -1,6 +1,6 @@
 //! The rows of a set, as bands of equal rows.
 
-use crate::run::Run;
+use crate::run::{Run, same_runs};
 use std::alloc::{AllocError, Global};
 
 /// Equal rows: those from the end of the band above to `bottom - 1`. Their runs are those from
@@ -28,10 +28,11 @@ pub struct Row<'a> {
 }
 
 impl Rows {
-    ghost use Rattle.std.specs.Prelude.{◌≡◌, ℕ, ◌<◌, ◌≤◌, length, slice_index_or, IfOk, OnOk};
+    ghost use Rattle.std.specs.Prelude.{◌≡◌, ℕ, ◌<◌, ◌≤◌, length, slice_index_or, OnOk};
+    ghost use Rattle.std.specs.Bool.{OnTrue};
     ghost use Rattle.dd_region.specs.declared.rows.Band.{Band};
     ghost use Rattle.dd_region.specs.Runs.{IsRow};
-    ghost use Rattle.dd_region.specs.Rows.{row_at, depth, AreRows, ArePassed, HasBandMore};
+    ghost use Rattle.dd_region.specs.Rows.{row_at, depth, last_runs, AreRows, ArePassed, HasBandMore};
 
     /// No rows.
     pub fn new(alloc: Global) -> Rows
@@ -89,13 +90,43 @@ impl Rows {
         }
     }
 
-    /// Adds a band of these runs, down to `bottom - 1`.
+    /// Whether the last band has these runs.
+    fn ends_with(&self, row: &[Run]) -> bool
+        requires { AreRows self.now }
+        ensures some { OnTrue result (0 < length self.now.bands.items) }
+        ensures last { OnTrue result ((d : Band) → last_runs self.now d ≡ row.now) }
+    {
+        let count = self.bands.len();
+        if count == 0 {
+            return false;
+        }
+        let last = self.bands[count - 1];
+        same_runs(&self.runs[last.start..last.end], row)
+    }
+
+    /// Lets the last band end at `bottom - 1`.
+    fn lengthen(&mut self, bottom: usize)
+        requires rows { AreRows self.old }
+        requires some { 0 < length self.old.bands.items }
+        requires bottom { depth self.old ≤ bottom }
+        ensures { (d : Band) → HasBandMore self.old (last_runs self.old d) bottom self.new }
+    {
+        let count = self.bands.len();
+        self.bands[count - 1].bottom = bottom;
+    }
+
+    /// Adds the rows down to `bottom - 1`, with these runs: a band more, or a longer last one where it
+    /// has the same.
     pub fn close(&mut self, row: &[Run], bottom: usize) -> Result<(), AllocError>
         requires rows { AreRows self.old }
         requires row { IsRow row.now }
         requires bottom { depth self.old ≤ bottom }
         ensures { OnOk result (HasBandMore self.old row.now bottom self.new) }
     {
+        if self.ends_with(row) {
+            self.lengthen(bottom);
+            return Ok(());
+        }
         let start = self.runs.len();
         self.runs.extend_from_slice(row)?;
         let end = self.runs.len();

@@ -1,6 +1,6 @@
 //! Runs of columns, and the rows that they make.
 
-ghost use Rattle.std.specs.Prelude.{◌≡◌, ℕ, ◌<◌, ◌≤◌, ◌+◌, ◌-◌, ◌^◌, ◌||◌, OnOk};
+ghost use Rattle.std.specs.Prelude.{◌≡◌, ℕ, ◌<◌, ◌≤◌, ◌+◌, ◌-◌, ◌^◌, ◌||◌, ◌↔◌, IsTrue, OnOk};
 ghost use Rattle.dd_region.specs.Runs.{in_run, in_runs, IsRow, BeginBy, in_window, landing};
 
 use std::alloc::AllocError;
@@ -18,6 +18,13 @@ pub struct Window {
     pub left: usize,
     pub right: usize,
     pub to: usize,
+}
+
+/// Whether two rows have the same runs.
+pub fn same_runs(a: &[Run], b: &[Run]) -> bool
+    ensures { IsTrue result ↔ (a.now ≡ b.now) }
+{
+    a == b
 }
 
 /// Whether a run has the column.

@@ -1,5 +1,11 @@
 //! Rows written anew: as they were outside a rectangle, and otherwise inside it.
 
+ghost use Rattle.std.specs.Prelude.{◌≡◌, ℕ, ◌+◌, ◌-◌, ◌^◌, ◌<◌, ◌≤◌, ◌||◌, ◌&&◌, nat_le, nat_lt, false, OnOk, IfOk, if◌then◌else◌};
+ghost use Rattle.dd_geom.specs.Rect.{AreInside};
+ghost use Rattle.dd_region.specs.Runs.{in_runs, IsRow, BeginBy};
+ghost use Rattle.dd_region.specs.Rows.{row_at, depth, AreRows, ArePassed, has_point, AreWithin, HavePoints};
+ghost use Rattle.dd_region.specs.Sweep.{inside_has, with_patch, IsPatch, IsSourcePassed, HasRowsOf, HasPatch};
+
 use crate::rows::Rows;
 use crate::run::{Run, Window, copy_runs, push_run};
 use dd_geom::{MAX_SIDE, Sides};
@@ -31,12 +37,6 @@ struct Step {
     band: usize,
 }
 
-ghost use Rattle.std.specs.Prelude.{◌≡◌, ℕ, ◌+◌, ◌-◌, ◌^◌, ◌<◌, ◌≤◌, ◌||◌, ◌&&◌, nat_le, nat_lt, false, OnOk, IfOk, if◌then◌else◌};
-ghost use Rattle.dd_geom.specs.Rect.{AreInside};
-ghost use Rattle.dd_region.specs.Runs.{in_runs, IsRow, BeginBy};
-ghost use Rattle.dd_region.specs.Rows.{row_at, depth, AreRows, ArePassed, has_point, AreWithin, HavePoints};
-ghost use Rattle.dd_region.specs.Sweep.{inside_has, with_patch, IsPatch, IsSourcePassed, HasRowsOf, HasPatch};
-
 /// Adds what row `y` of the rectangle gets from the source that begins at `column` and `source`.
 fn push_source(
     row: &mut Vec<Run>,
@@ -57,8 +57,8 @@ fn push_source(
     requires down { source + (sides.bottom - sides.top) < 2 ^ 64 }
     requires source { source + (sides.bottom - sides.top) ≤ depth old.now }
     requires passed { ArePassed old.now from (y + source - sides.top) }
-    ensures columns { IfOk result (λ step. (x z : ℕ) → y ≤ z → z < step.bottom → in_runs row.new.items x
-        ≡ (in_runs row.old.items x || (nat_le sides.left x && nat_lt x sides.right
+    ensures columns { IfOk result (λ step. (x z : ℕ) → y ≤ z → z < step.bottom →
+        in_runs row.new.items x ≡ (in_runs row.old.items x || (nat_le sides.left x && nat_lt x sides.right
         && has_point old.now (x + column - sides.left) (z + source - sides.top)))) }
     ensures row { OnOk result (IsRow row.new.items) }
     ensures begin { OnOk result (BeginBy row.new.items sides.right) }
@@ -96,14 +96,15 @@ fn push_inside(
     requires top { patch.sides.top ≤ y }
     requires bottom { y < patch.sides.bottom }
     requires passed { IsSourcePassed patch.inside patch.sides old.now from y }
-    ensures columns { IfOk result (λ step. (x z : ℕ) → y ≤ z → z < step.bottom → in_runs row.new.items x
-        ≡ (in_runs row.old.items x || (nat_le patch.sides.left x && nat_lt x patch.sides.right
+    ensures columns { IfOk result (λ step. (x z : ℕ) → y ≤ z → z < step.bottom →
+        in_runs row.new.items x ≡ (in_runs row.old.items x || (nat_le patch.sides.left x && nat_lt x patch.sides.right
         && inside_has patch.inside patch.sides (has_point old.now) x z))) }
     ensures row { OnOk result (IsRow row.new.items) }
     ensures begin { OnOk result (BeginBy row.new.items patch.sides.right) }
     ensures below { IfOk result (λ step. y < step.bottom) }
     ensures within { IfOk result (λ step. step.bottom ≤ patch.sides.bottom) }
-    ensures passed { IfOk result (λ step. IsSourcePassed patch.inside patch.sides old.now step.band y) }
+    ensures passed { IfOk result (λ step.
+        IsSourcePassed patch.inside patch.sides old.now step.band y) }
 {
     let sides = patch.sides;
     let all = Step {
@@ -146,13 +147,14 @@ fn write_row(
     requires top { patch.sides.top ≤ y }
     requires bottom { y < patch.sides.bottom }
     requires passed { IsSourcePassed patch.inside patch.sides old.now from y }
-    ensures columns { IfOk result (λ step. (x z : ℕ) → y ≤ z → z < step.bottom → in_runs row.new.items x
-        ≡ (if nat_le patch.sides.left x && nat_lt x patch.sides.right
+    ensures columns { IfOk result (λ step. (x z : ℕ) → y ≤ z → z < step.bottom →
+        in_runs row.new.items x ≡ (if nat_le patch.sides.left x && nat_lt x patch.sides.right
         then inside_has patch.inside patch.sides (has_point old.now) x z else in_runs runs.now x)) }
     ensures row { OnOk result (IsRow row.new.items) }
     ensures below { IfOk result (λ step. y < step.bottom) }
     ensures within { IfOk result (λ step. step.bottom ≤ patch.sides.bottom) }
-    ensures passed { IfOk result (λ step. IsSourcePassed patch.inside patch.sides old.now step.band y) }
+    ensures passed { IfOk result (λ step.
+        IsSourcePassed patch.inside patch.sides old.now step.band y) }
 {
     let sides = patch.sides;
     row.clear();

@@ -125,8 +125,8 @@ fn unite(row: &mut Vec<Run>, first: &[Run], second: &[Run]) -> Result<(), AllocE
     Ok(())
 }
 
-/// Makes a row of all runs of the rows from `top` to `bottom - 1`; none of the bands before the band
-/// `from` has the first of them.
+/// Makes a row of all runs of the rows from `top` to `bottom - 1`. None of the bands before the
+/// band `from` has row `top`.
 fn unite_rows(
     row: &mut Vec<Run>,
     spare: &mut Vec<Run>,
@@ -164,8 +164,8 @@ pub struct Tiles {
     pub height: usize,
 }
 
-/// Where the row of tiles ends that begins at row `top`, or the last of those rows of tiles in which
-/// all rows are the same, where they are so down to row `same_to - 1`.
+/// Where the row of tiles ends that begins at row `top`; or further down where the rows from `top`
+/// to `same_to - 1` are all the same: where the last row of tiles ends that lies among them.
 fn tiles_end(tiles: Tiles, top: usize, same_to: usize) -> usize
     requires side { 1 ≤ tiles.side }
     requires top { top < tiles.height }

@@ -15,8 +15,8 @@ pub loop-band-preserved : goal.loop-band-preserved
 loop-band-preserved c =
     let bands = c.args.self.now.bands.items in
     let more : ArePassed c.args.self.now (c.loop-band.band + 1) c.args.y =
-    passed_more bands c.loop-band.band c.args.y c.index.result.now c.loop-band.invariant.passed c.loop-band.invariant.within
-    c.index.ensures c.loop-band-test.true in
+    passed_more bands c.loop-band.band c.args.y c.index.result.now c.loop-band.invariant.passed
+    c.loop-band.invariant.within c.index.ensures c.loop-band-test.true in
     record {
       passed = more;
       within = passed_within bands (c.loop-band.band + 1) c.args.y more c.requires.row;

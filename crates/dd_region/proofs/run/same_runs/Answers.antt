@@ -2,7 +2,7 @@ use Rattle.std.proofs.Common.{◌≡◌, ◌&&◌, ◌==◌, ap, ◌∙◌, Deci
 use Rattle.std.proofs.lemmas.Bool.{and_parts, and_from, eqb-true, eq-eqb}
 use Rattle.std.proofs.lemmas.Slice.Eq.{slice_eq-Decides}
 use Rattle.dd_region.specs.declared.run.Run.{Run}
-use Rattle.dd_region.proofs.listing.same_runs.Goals as goal
+use Rattle.dd_region.proofs.run.same_runs.Goals as goal
 
 -- two runs are equal where their sides are
 sides_Decides : (a b : Run) → Decides (a.left == b.left && a.right == b.right) (a ≡ b)
