@@ -1,5 +1,5 @@
--- The grids that a plane's cells are: of no point, and with a rectangle painted.
-use Rattle.std.proofs.Common.{◌≡◌, ℕ, ◌*◌, List, Bool, true, false, ◌||◌, cond, length, replicate, get_or, refl, ap, ◌∙◌}
+-- The grids that a plane's cells are: of no point, with a rectangle painted, and without one.
+use Rattle.std.proofs.Common.{◌≡◌, ℕ, ◌*◌, List, Bool, true, false, not, ◌&&◌, ◌||◌, cond, length, replicate, get_or, refl, ap, ◌∙◌}
 use Rattle.std.proofs.lemmas.List.{length-replicate, get_or-replicate}
 use Rattle.dd_geom.specs.declared.rect.Rect.{Rect}
 use Rattle.dd_geom.specs.declared.rect.Sides.{Sides}
@@ -7,7 +7,7 @@ use Rattle.dd_geom.specs.Rect.{has, sides, between}
 use Rattle.dd_geom.specs.Grid.{Grid, value_at}
 use Rattle.dd_geom.proofs.GridLemmas.{grid_from_places, grid_from_agree}
 use Rattle.dd_geom.proofs.PaintLemmas.{IsPainted, grid_from_painted}
-use Rattle.dd_bits.specs.Area.{is_in, nowhere, with_rect}
+use Rattle.dd_bits.specs.Area.{is_in, nowhere, with_rect, without_rect}
 
 abbrev plane : ℕ → ℕ → List Bool → Grid Bool
 plane w h cells = record { width = w; height = h; cells = cells }
@@ -24,6 +24,10 @@ or_cond : (a b : Bool) → cond a true b ≡ (a || b)
 or_cond true b = refl
 or_cond false b = refl
 
+and_cond : (a b : Bool) → cond a false b ≡ (not a && b)
+and_cond true b = refl
+and_cond false b = refl
+
 pub painted_rect :
     (w h : ℕ) (r : Rect) (s : Sides) (old new : List Bool) (g : Grid Bool) → s ≡ sides r
     → record { width = w; height = h; cells = old } ≡ g → length old ≡ w * h → length new ≡ w * h
@@ -34,3 +38,14 @@ painted_rect w h r s old new g e is long_old long_new painted =
     ap (λ t. cond (between t x y) true (value_at false (plane w h old) x y)) e
     ∙ or_cond (between (sides r) x y) (value_at false (plane w h old) x y))
     ∙ ap (λ v. with_rect v r) is
+
+pub cleared_rect :
+    (w h : ℕ) (r : Rect) (s : Sides) (old new : List Bool) (g : Grid Bool) → s ≡ sides r
+    → record { width = w; height = h; cells = old } ≡ g → length old ≡ w * h → length new ≡ w * h
+    → IsPainted w s false old new → record { width = w; height = h; cells = new } ≡ without_rect g r
+cleared_rect w h r s old new g e is long_old long_new painted =
+    grid_from_painted false w h s false old new long_old long_new painted
+    ∙ grid_from_agree w h _ (λ x y. not (has r x y) && is_in (plane w h old) x y) (λ x y a b.
+    ap (λ t. cond (between t x y) false (value_at false (plane w h old) x y)) e
+    ∙ and_cond (between (sides r) x y) (value_at false (plane w h old) x y))
+    ∙ ap (λ v. without_rect v r) is

@@ -1,5 +1,5 @@
 -- Sets of points of a surface: a grid that says of each point whether it is in the set.
-use Rattle.std.specs.Prelude.{◌≡◌, ℕ, ◌*◌, Bool, false, ◌||◌, length}
+use Rattle.std.specs.Prelude.{◌≡◌, ℕ, ◌*◌, Bool, false, not, ◌&&◌, ◌||◌, length}
 use Rattle.dd_geom.specs.declared.rect.Rect.{Rect}
 use Rattle.dd_geom.specs.Rect.{has, IsSize}
 use Rattle.dd_geom.specs.declared.rect.Move.{Move}
@@ -16,6 +16,10 @@ nowhere w h = grid w h (λ x y. false)
 -- the set and the points of a rectangle
 abbrev pub with_rect : Grid Bool → Rect → Grid Bool
 with_rect g r = grid g.width g.height (λ x y. has r x y || is_in g x y)
+
+-- the set without the points of a rectangle
+abbrev pub without_rect : Grid Bool → Rect → Grid Bool
+without_rect g r = grid g.width g.height (λ x y. not (has r x y) && is_in g x y)
 
 -- the set after a move: a point of the destination is in it exactly where its source point was in the old one
 abbrev pub moved_over : Grid Bool → Move → Grid Bool

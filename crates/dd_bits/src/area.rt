@@ -1,7 +1,7 @@
 //! A set of points of a surface, and how it is told as a list of rectangles.
 //!
 //! **The set.** Any points of one surface: each of them is in it or isn't. A set begins empty. Then
-//! rectangles are added, moves carry it over, and tiles round it. No point outside the surface is
+//! rectangles are added and taken out, moves carry it over, and tiles round it. No point outside the surface is
 //! ever in it.
 //!
 //! **The list.** A set can be cut into rectangles in many ways. The canonical list is one of them,
@@ -35,7 +35,7 @@
 ghost use Rattle.std.specs.Prelude.{◌≡◌, ◌≤◌, Bool, IsTrue, IfOk, OnOk, OnErr};
 ghost use Rattle.dd_geom.specs.Grid.{Grid, SameSize};
 ghost use Rattle.dd_geom.specs.Rect.{IsSize, is_inside, is_move_inside};
-ghost use Rattle.dd_bits.specs.Area.{IsArea, is_in, nowhere, with_rect, moved_over};
+ghost use Rattle.dd_bits.specs.Area.{IsArea, is_in, nowhere, with_rect, without_rect, moved_over};
 ghost use Rattle.dd_bits.specs.CanonicalList.{canonical_list};
 ghost use Rattle.dd_bits.specs.Tiles.{tiles};
 
@@ -55,6 +55,13 @@ pub trait Area: Sized + Drop {
     fn add(&mut self, r: Rect) -> Result<(), AllocError>
         requires { IsTrue (is_inside r (points self.old).width (points self.old).height) }
         ensures ok { OnOk result (points self.new ≡ with_rect (points self.old) r) }
+        ensures err { OnErr result (points self.new ≡ points self.old) }
+        ensures size { SameSize (points self.old) (points self.new) };
+
+    /// Takes out each point of the rectangle.
+    fn remove(&mut self, r: Rect) -> Result<(), AllocError>
+        requires { IsTrue (is_inside r (points self.old).width (points self.old).height) }
+        ensures ok { OnOk result (points self.new ≡ without_rect (points self.old) r) }
         ensures err { OnErr result (points self.new ≡ points self.old) }
         ensures size { SameSize (points self.old) (points self.new) };
 

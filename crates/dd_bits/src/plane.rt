@@ -67,7 +67,7 @@ impl Plane {
 impl Area for Plane {
     ghost use Rattle.std.specs.Prelude.{IsTrue, IsOk, OnOk, OnErr};
     ghost use Rattle.dd_geom.specs.Rect.{is_inside, is_move_inside};
-    ghost use Rattle.dd_bits.specs.Area.{with_rect, moved_over};
+    ghost use Rattle.dd_bits.specs.Area.{with_rect, without_rect, moved_over};
     ghost use Rattle.dd_bits.specs.Tiles.{tiles};
 
     ghost points = { λ p. p };
@@ -92,6 +92,20 @@ impl Area for Plane {
         let width = self.width as usize;
         let height = self.height as usize;
         paint(&mut self.cells, width, height, sides_of(r), true);
+        Ok(())
+    }
+
+    /// Takes no memory.
+    fn remove(&mut self, r: Rect) -> Result<(), AllocError>
+        requires { IsTrue (is_inside r self.old.width self.old.height) }
+        ensures succeeds { IsOk result }
+        ensures ok { OnOk result (self.new ≡ without_rect self.old r) }
+        ensures err { OnErr result (self.new ≡ self.old) }
+        ensures size { SameSize self.old self.new }
+    {
+        let width = self.width as usize;
+        let height = self.height as usize;
+        paint(&mut self.cells, width, height, sides_of(r), false);
         Ok(())
     }
 

@@ -1,0 +1,13 @@
+//! Sets of points of a surface as bands of equal rows.
+#![tactic(auto)]
+
+mod bands;
+mod listing;
+mod rows;
+mod run;
+mod sweep;
+#[cfg(test)]
+mod tests;
+mod tiling;
+
+pub use bands::Bands;
