@@ -12,7 +12,7 @@ returns-then-run-last-clause-columns c =
     let begin : last.left ≤ c.args.run.left =
     subst (λ (v : Run). v.left ≤ c.args.run.left) (sym c.index-last.ensures) (c.requires.begin _ _ (omega arith)) in
     in_runs-joined c.args.row.now.items (c.len-count.result - 1) c.max.result last c.index_mut.result.now c.args.run
-    (omega arith) c.index-last.ensures c.index_mut.ensures.value begin c.if-run-last.true c.requires.some c.max.ensures
+    (omega arith) c.index-last.ensures c.index_mut.ensures.value begin (omega arith) c.requires.some c.max.ensures
 
 pub returns-clause-row : goal.returns-clause-row
 returns-clause-row c =
@@ -23,7 +23,7 @@ returns-clause-row c =
           let at : k ≡ c.len-count.result - 1 = omega (arith, n) in
           let e = get_or_read rs _ w.index-last.result.now (omega arith) w.index-last.ensures d in
           let same : get_or rs k d ≡ w.index-last.result.now = ap (λ i. get_or rs i d) at ∙ sym e in
-          subst (λ (v : Run). v.right < c.args.run.left) (sym same) w.if-run-last.false
+          omega (arith, ap (λ (v : Run). v.right) same, w.if-run-last.false)
       | else-count-gt0 w ↦ absurd (omega (arith, n, w.if-count-gt0.false))
     ] in
     subst IsRow (sym (c.in_ok-push.ensures.items)) (IsRow-push rs c.args.run c.requires.row c.requires.some apart)

@@ -27,7 +27,7 @@ loop-y-preserved c =
       rounded = HasTiles-more t.side t.width t.height c.args.old.now c.loop-y.new c.close.new.self c.loop-y.y
           c.at-own.result.bottom c.tiles_end-end.result c.deref.result.now c.deref-in-loop-y.result.now c.requires.side
           (sym c.requires.height) c.requires.within c.loop-y.invariant.rounded
-          (c.loop-y.invariant.start c.loop-y-test.true) is own.same
+          (c.loop-y.invariant.start (omega (arith, c.loop-y-test.true))) is own.same
           (λ x. ap (λ rs. in_runs rs x) c.deref.ensures.value ∙ united.columns x)
           (λ x. ap (λ rs. in_runs rs x) c.deref-in-loop-y.ensures.value ∙ c.in_ok-round_runs.ensures.columns x)
           c.in_ok-close.ensures;
