@@ -81,10 +81,10 @@ reply calls.Release m h = (release_answer (release_reply m), without_frame m)
 reply calls.Surface m h = (answers.Surface (surface_reply m h), m)
 
 -- whether a call takes memory: for a frame that is granted, and for rows
-abbrev pub takes_memory : DupCall → Memory → History → Bool
-takes_memory calls.Acquire m h = is_ok (acquire_reply m h)
-takes_memory calls.Release m h = false
-takes_memory calls.Surface m h = is_some m.held
+abbrev pub call_takes_memory : DupCall → Memory → History → Bool
+call_takes_memory calls.Acquire m h = is_ok (acquire_reply m h)
+call_takes_memory calls.Release m h = false
+call_takes_memory calls.Surface m h = is_some m.held
 
 -- The answer to an acquire and the memory after it are those of the reply. Or memory is wanting, for a frame that is
 -- granted.

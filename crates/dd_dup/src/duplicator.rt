@@ -40,7 +40,7 @@ impl Dup {
     ghost use Rattle.dd_log.specs.History.{legal};
     ghost use Rattle.dd_log.specs.Picture.{view};
     ghost use Rattle.dd_dup.specs.News.{news, news_since, frame};
-    ghost use Rattle.dd_dup.specs.Reply.{fresh_memory, granted, release_reply, reply, takes_memory, Answers, IsNewsOr};
+    ghost use Rattle.dd_dup.specs.Reply.{fresh_memory, granted, release_reply, reply, call_takes_memory, Answers, IsNewsOr};
     ghost use Rattle.dd_dup.specs.Duplicator.{holding, released, lent, held_moves, held_dirt, held_info, HeldRebuilds, IsReached, IsExactSince};
     ghost use Rattle.dd_dup.specs.Stands.{Stands, StandsOnceOpened};
 
@@ -156,7 +156,7 @@ impl Dup {
         ensures answer { IfOk result (λ a. a ≡ (reply call self.old.memory log.now).0) }
         ensures memory { OnOk result (self.new.memory ≡ (reply call self.old.memory log.now).1) }
         ensures err { OnErr result (self.new ≡ self.old) }
-        ensures wants { OnErr result (IsTrue (takes_memory call self.old.memory log.now)) }
+        ensures wants { OnErr result (IsTrue (call_takes_memory call self.old.memory log.now)) }
         ensures stands { Stands self.new log.now }
     {
         let alloc = self.alloc;

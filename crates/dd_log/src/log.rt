@@ -1,11 +1,9 @@
 //! The list of an output's events, kept whole for the output's life.
 
-ghost use Rattle.std.specs.Prelude.{◌≡◌, ℕ, ◌+◌, ◌≤◌, ◌<◌, length, drop, Ok, Err, Some, None, IsTrue, IfOk, OnOk, OnErr, IfSome, is_none, slice_get, option_map, position};
+ghost use Rattle.std.specs.Prelude.{◌≡◌, ◌+◌, ◌≤◌, ◌<◌, length, drop, Ok, Err, Some, None, IsTrue, IfOk, OnOk, OnErr, IfSome, is_none, slice_get, option_map, position};
 ghost use Rattle.std.specs.Prelude.{◌==◌};
 ghost use Rattle.dd_ops.specs.Operations.{first_unfit as unfit_place};
 ghost use Rattle.dd_log.specs.History.{bad_rect, verdict as verdict_of};
-ghost use Rattle.std.specs.Option.{ForSome};
-ghost use Rattle.std.specs.Prelude.{◌^◌};
 ghost use Rattle.dd_ops.specs.declared.lists.TheConstants.{MAX_OPS};
 ghost use Rattle.dd_geom.specs.Rect.{IsSize};
 ghost use Rattle.dd_log.specs.declared.events.TheConstants.{MAX_ACTORS, MAX_CAPACITY};

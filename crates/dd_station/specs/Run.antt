@@ -13,7 +13,7 @@ use Rattle.dd_log.specs.History.{History, begun, with_entry, allowed}
 use Rattle.dd_table.specs.Opening.{opening}
 use Rattle.dd_dup.specs.declared.calls.DupCall.{DupCall}
 use Rattle.dd_dup.specs.declared.calls.DupCall.TheVariants as asked
-use Rattle.dd_dup.specs.Reply.{Memory, fresh_memory, reply, takes_memory as call_takes_memory}
+use Rattle.dd_dup.specs.Reply.{Memory, fresh_memory, reply, call_takes_memory}
 use Rattle.dd_station.specs.declared.steps.Script.{Script}
 use Rattle.dd_station.specs.declared.steps.Step.{Step}
 use Rattle.dd_station.specs.declared.steps.Step.TheVariants as steps
@@ -115,9 +115,9 @@ client_takes_memory s k (Some call) = asking_takes_memory call (memory_of s k) s
 
 -- whether memory is taken for a step: for each drawing, for an opening that is granted, for a frame that is granted and
 -- for rows; never for a release
-unfoldable pub takes_memory : State → Step → Bool
-takes_memory s (steps.Draw d) = true
-takes_memory s (steps.Call k call) = client_takes_memory s k (asks call)
+unfoldable pub step_takes_memory : State → Step → Bool
+step_takes_memory s (steps.Draw d) = true
+step_takes_memory s (steps.Call k call) = client_takes_memory s k (asks call)
 
 -- the answers to steps in order
 abbrev pub answers : State → List Step → List Answer

@@ -73,7 +73,7 @@ fn none_of(alloc: Global, n: usize) -> Result<Vec<Option<Dup>>, AllocError>
 }
 
 impl Station {
-    ghost use Rattle.dd_station.specs.Run.{start, next, draw_outcome, call_outcome, reply_outcome, client_reply, memory_of, opening_outcome, app_of, asks, takes_memory, client_takes_memory, asking_takes_memory, IsOfClient};
+    ghost use Rattle.dd_station.specs.Run.{start, next, draw_outcome, call_outcome, reply_outcome, client_reply, memory_of, opening_outcome, app_of, asks, step_takes_memory, client_takes_memory, asking_takes_memory, IsOfClient};
     ghost use Rattle.dd_table.specs.Opening.{opening};
 
     /// A station with an empty list and no duplicators; client k, from 1, has the k-th application.
@@ -147,14 +147,14 @@ impl Station {
 
     /// Does one step, which is the next of the run. Want of memory changes nothing, and the step
     /// isn't counted; it comes only where the step takes memory, which a release never does.
-    #[tactic(auto, unfolding(crate::specs::Run::next, crate::specs::Run::takes_memory))]
+    #[tactic(auto, unfolding(crate::specs::Run::next, crate::specs::Run::step_takes_memory))]
     pub fn step(&mut self, step: &Step) -> Result<Answer, AllocError>
         requires client { IsOfClient (length self.old.clients) step.now }
         requires count { self.old.steps < 2 ^ 32 - 1 }
         ensures answer { IfOk result (λ a. a ≡ (next self.old step.now).0) }
         ensures state { OnOk result (self.new ≡ (next self.old step.now).1) }
         ensures err { OnErr result (self.new ≡ self.old) }
-        ensures wants { OnErr result (IsTrue (takes_memory self.old step.now)) }
+        ensures wants { OnErr result (IsTrue (step_takes_memory self.old step.now)) }
     {
         match step {
             Step::Draw(drawing) => self.draw(drawing),

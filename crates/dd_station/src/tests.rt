@@ -1,6 +1,6 @@
 //! Steps on small outputs with answers that are worked out by hand. Each case is a row of a table.
 
-ghost use Rattle.std.specs.Prelude.{◌≡◌, ◌+◌, ◌<◌, ◌≤◌, length, IfOk, OnOk};
+ghost use Rattle.std.specs.Prelude.{◌≡◌, ◌+◌, ◌<◌, length, IfOk, OnOk};
 ghost use Rattle.dd_station.specs.Run.{IsOfClient};
 
 mod cases;
