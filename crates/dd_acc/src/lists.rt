@@ -27,7 +27,7 @@ impl Model for FrameMoves {
 
 impl FrameMoves {
     /// No moves.
-    pub fn new() -> FrameMoves
+    pub(crate) fn new() -> FrameMoves
         ensures { result ≡ [] }
     {
         FrameMoves {
@@ -36,7 +36,7 @@ impl FrameMoves {
     }
 
     /// Adds a move at the end. There has to be room.
-    pub fn push(&mut self, mv: Move)
+    pub(crate) fn push(&mut self, mv: Move)
         requires { length self.old < MAX_MOVES }
         ensures { self.new ≡ self.old ++ mv ∷ [] }
     {
@@ -68,7 +68,7 @@ impl Model for FrameRects {
 
 impl FrameRects {
     /// No rectangles.
-    pub fn new() -> FrameRects
+    pub(crate) fn new() -> FrameRects
         ensures { result ≡ [] }
     {
         FrameRects {
@@ -77,7 +77,7 @@ impl FrameRects {
     }
 
     /// The rectangles of a slice, in its order.
-    pub fn from_slice(rects: &[Rect]) -> FrameRects
+    pub(crate) fn from_slice(rects: &[Rect]) -> FrameRects
         requires { length rects.now ≤ MAX_RECTS }
         ensures { result ≡ rects.now }
     {

@@ -1,6 +1,8 @@
 //! Each public call, on planes of 4 by 3 points and of 130 by 1, with lists worked out by hand.
 
 ghost use Rattle.std.specs.Prelude.{◌≡◌, IsTrue, IfOk};
+ghost use Rattle.dd_geom.specs.Grid.{SameSize};
+ghost use Rattle.dd_geom.specs.Rect.{IsSize};
 ghost use Rattle.dd_ops.specs.Operations.{all_fit};
 
 use crate::{
@@ -50,27 +52,31 @@ const DOWN: Move = from!(0, 0, rect!(0, 1, 4, 2));
 /// One scroll as a present.
 const DOWN_ONCE: &[Step] = &[Step::Scroll(DOWN)];
 
-/// An interval on 4 by 3 points: the steps of each of its presents, the moves that it tells, and
-/// its dirty rectangles.
+/// An interval: the steps of each of its presents, the moves that it tells, its dirty rectangles,
+/// and whether they were rounded.
 struct Case {
     name: &'static str,
     presents: &'static [&'static [Step]],
     moves: &'static [Move],
     dirt: &'static [Rect],
+    rounded: bool,
 }
 
+/// Intervals on 4 by 3 points.
 static CASES: [Case; 16] = [
     Case {
         name: "no present",
         presents: &[],
         moves: &[],
         dirt: &[],
+        rounded: false,
     },
     Case {
         name: "a present that draws nothing",
         presents: &[&[]],
         moves: &[],
         dirt: &[],
+        rounded: false,
     },
     Case {
         name: "fills of two presents that overlap",
@@ -80,30 +86,35 @@ static CASES: [Case; 16] = [
         ],
         moves: &[],
         dirt: &[rect!(2, 0, 4, 1), rect!(1, 1, 4, 2)],
+        rounded: false,
     },
     Case {
         name: "a fill two rows high",
         presents: &[&[Step::Fill(rect!(0, 0, 2, 2))]],
         moves: &[],
         dirt: &[rect!(0, 0, 2, 2)],
+        rounded: false,
     },
     Case {
         name: "two fills of one corner",
         presents: &[&[Step::Fill(rect!(0, 0, 1, 2)), Step::Fill(rect!(0, 0, 3, 1))]],
         moves: &[],
         dirt: &[rect!(0, 0, 3, 1), rect!(0, 1, 1, 2)],
+        rounded: false,
     },
     Case {
         name: "an image",
         presents: &[&[Step::Blit(rect!(1, 1, 3, 3))]],
         moves: &[],
         dirt: &[rect!(1, 1, 3, 3)],
+        rounded: false,
     },
     Case {
         name: "a cover",
         presents: &[&[Step::Cover(rect!(1, 1, 3, 3))]],
         moves: &[],
         dirt: &[rect!(1, 1, 3, 3)],
+        rounded: false,
     },
     Case {
         name: "a fill, then a scroll over itself",
@@ -113,12 +124,14 @@ static CASES: [Case; 16] = [
         ],
         moves: &[from!(0, 0, rect!(1, 0, 3, 1))],
         dirt: &[rect!(0, 0, 3, 1)],
+        rounded: false,
     },
     Case {
         name: "a scroll of what is clean",
         presents: &[&[Step::Scroll(from!(0, 0, rect!(2, 0, 4, 1)))]],
         moves: &[from!(0, 0, rect!(2, 0, 4, 1))],
         dirt: &[],
+        rounded: false,
     },
     Case {
         name: "a scroll onto dirt whose source is clean",
@@ -128,6 +141,7 @@ static CASES: [Case; 16] = [
         ]],
         moves: &[from!(0, 0, rect!(2, 0, 3, 1))],
         dirt: &[],
+        rounded: false,
     },
     Case {
         name: "a fill over a scroll's destination, drawn later",
@@ -137,6 +151,7 @@ static CASES: [Case; 16] = [
         ]],
         moves: &[from!(0, 0, rect!(2, 0, 4, 1))],
         dirt: &[rect!(3, 0, 4, 2)],
+        rounded: false,
     },
     Case {
         name: "two scrolls, the earlier one told first",
@@ -152,18 +167,21 @@ static CASES: [Case; 16] = [
             from!(1, 1, rect!(3, 2, 4, 3)),
         ],
         dirt: &[rect!(0, 0, 1, 1), rect!(1, 1, 2, 2), rect!(3, 2, 4, 3)],
+        rounded: false,
     },
     Case {
         name: "seventeen presents of one scroll each",
         presents: &[DOWN_ONCE; 17],
         moves: &[DOWN; MAX_MOVES],
         dirt: &[rect!(0, 1, 4, 2)],
+        rounded: false,
     },
     Case {
         name: "seventeen scrolls in one present",
         presents: &[&[Step::Scroll(DOWN); 17]],
         moves: &[DOWN; MAX_MOVES],
         dirt: &[rect!(0, 1, 4, 2)],
+        rounded: false,
     },
     Case {
         name: "nine scrolls, a fill, nine scrolls",
@@ -174,12 +192,49 @@ static CASES: [Case; 16] = [
         ],
         moves: &[DOWN; MAX_MOVES],
         dirt: &[rect!(0, 1, 4, 2), rect!(0, 2, 1, 3)],
+        rounded: false,
     },
     Case {
         name: "sixteen scrolls, all of them told",
         presents: &[&[Step::Scroll(DOWN); 16]],
         moves: &[DOWN; MAX_MOVES],
         dirt: &[],
+        rounded: false,
+    },
+];
+
+/// Fills of single points of the top row.
+macro_rules! points {
+    ($($x:expr),* $(,)?) => {
+        [$(Step::Fill(rect!($x, 0, $x + 1, 1))),*]
+    };
+}
+
+/// Fills of 64 points, no two of which touch.
+const SIXTY_FOUR: &[Step] = &points![
+    0, 2, 4, 6, 8, 10, 12, 14, 16, 18, 20, 22, 24, 26, 28, 30, 32, 34, 36, 38, 40, 42, 44, 46, 48,
+    50, 52, 54, 56, 58, 60, 62, 64, 66, 68, 70, 72, 74, 76, 78, 80, 82, 84, 86, 88, 90, 92, 94, 96,
+    98, 100, 102, 104, 106, 108, 110, 112, 114, 116, 118, 120, 122, 124, 126,
+];
+
+/// One point more.
+const ONE_MORE: &[Step] = &points![128];
+
+/// Intervals on 130 by 1 points whose last present has 65 rectangles, or comes after one that had.
+static ROUNDED: [Case; 2] = [
+    Case {
+        name: "a rectangle too many",
+        presents: &[SIXTY_FOUR, ONE_MORE],
+        moves: &[],
+        dirt: &[rect!(0, 0, 130, 1)],
+        rounded: true,
+    },
+    Case {
+        name: "nothing drawn after that",
+        presents: &[SIXTY_FOUR, ONE_MORE, &[]],
+        moves: &[],
+        dirt: &[rect!(0, 0, 130, 1)],
+        rounded: true,
     },
 ];
 
@@ -204,96 +259,80 @@ fn op_of(alloc: Global, step: Step) -> Result<Op, AllocError> {
     }
 }
 
-/// A present of these steps, each of which lies inside a surface of 4 by 3 points.
-fn present(rt: &impl Abort, alloc: Global, steps: &[Step]) -> Result<Ops, Fail>
-    ensures { IfOk result (λ ops. IsTrue (all_fit 4 3 ops)) }
+/// A present of these steps, each of which fits a surface of `w` by `h` points.
+fn present(rt: &impl Abort, alloc: Global, steps: &[Step], w: u32, h: u32) -> Result<Ops, Fail>
+    ensures { IfOk result (λ ops. IsTrue (all_fit w h ops)) }
 {
     let mut ops = Ops::new(alloc);
     for step in steps {
         let op = op_of(alloc, *step)?;
-        assert!(rt; fits(&op, 4, 3));
+        assert!(rt; fits(&op, w, h));
         ops.push(op)?;
     }
     Ok(ops)
 }
 
-/// What the presents of a case leave.
-#[tactic(auto, unfolding(crate::specs::Effects::dirtied, dd_bits::specs::Tiles::tiles))]
-fn accumulated(rt: &impl Abort, alloc: Global, presents: &[&[Step]]) -> Result<Acc<Plane>, Fail> {
-    let mut acc = Acc::start(alloc, 4, 3)?;
-    for steps in presents {
-        let ops = present(rt, alloc, steps)?;
-        assert!(rt; acc.frames() < u32::MAX);
-        acc = acc.add(&ops)?;
-    }
-    Ok(acc)
-}
-
-#[test]
-fn intervals_are_accumulated(rt: HostRuntime) -> Result<(), Fail> {
-    for case in &CASES {
-        let name = case.name;
-        let acc = accumulated(&rt, rt.alloc(), case.presents)?;
-        assert_eq!(rt;
-            acc.frames() as usize,
-            case.presents.len(),
-            "{name}: frames"
-        );
-        assert_eq!(rt; acc.moves(), case.moves, "{name}: moves");
-        assert_eq!(rt; acc.dirt(), case.dirt, "{name}: dirt");
-        assert_eq!(rt; acc.coalesced(), false, "{name}: rounded");
-        let (moves, dirt) = acc.into_lists();
-        assert_eq!(rt; moves.as_slice(), case.moves, "{name}: moves as a list");
-        assert_eq!(rt; dirt.as_slice(), case.dirt, "{name}: dirt as a list");
-    }
-    Ok(())
-}
-
-/// A present of fills of single points of a row of 130: the even columns from `start` to `end - 1`.
-fn fills(rt: &impl Abort, alloc: Global, start: u32, end: u32) -> Result<Ops, Fail>
-    ensures { IfOk result (λ ops. IsTrue (all_fit 130 1 ops)) }
-{
-    let mut ops = Ops::new(alloc);
-    for x in start..end {
-        if x % 2 == 0 {
-            assert!(rt; x < 130);
-            let op = Op::Fill {
-                rect: rect!(x as i32, 0, x as i32 + 1, 1),
-                colour: 7,
-            };
-            assert!(rt; fits(&op, 130, 1));
-            ops.push(op)?;
-        }
-    }
-    Ok(ops)
-}
-
-/// One more present on 130 by 1 points.
+/// Adds one more present.
 #[tactic(auto, unfolding(crate::specs::Effects::dirtied, dd_bits::specs::Tiles::tiles))]
 fn more(rt: &impl Abort, acc: Acc<Plane>, ops: &Ops) -> Result<Acc<Plane>, AllocError>
-    requires width { acc.area.width ≡ 130 }
-    requires height { acc.area.height ≡ 1 }
-    requires fit { IsTrue (all_fit 130 1 ops.now) }
-    ensures width { IfOk result (λ a. a.area.width ≡ 130) }
-    ensures height { IfOk result (λ a. a.area.height ≡ 1) }
+    requires { IsTrue (all_fit acc.area.width acc.area.height ops.now) }
+    ensures { IfOk result (λ next. SameSize acc.area next.area) }
 {
     assert!(rt; acc.frames() < u32::MAX);
     acc.add(ops)
 }
 
+/// What presents leave on a surface of `w` by `h` points, from nothing on.
+fn accumulated(
+    rt: &impl Abort,
+    alloc: Global,
+    w: u32,
+    h: u32,
+    presents: &[&[Step]],
+) -> Result<Acc<Plane>, Fail>
+    requires { IsSize w h }
+{
+    let mut acc = Acc::start(alloc, w, h)?;
+    for steps in presents {
+        let ops = present(rt, alloc, steps, w, h)?;
+        acc = more(rt, acc, &ops)?;
+    }
+    Ok(acc)
+}
+
+/// An interval is the one that a case tells.
+fn check(rt: &impl Abort, acc: Acc<Plane>, case: &Case) {
+    let name = case.name;
+    assert!(rt;
+        acc.frames() as usize == case.presents.len(),
+        "{name}: frames"
+    );
+    assert!(rt; acc.moves() == case.moves, "{name}: moves");
+    assert!(rt; acc.dirt() == case.dirt, "{name}: dirt");
+    assert!(rt; acc.coalesced() == case.rounded, "{name}: rounded");
+    let (moves, dirt) = acc.into_lists();
+    assert!(rt; moves.as_slice() == case.moves, "{name}: moves as a list");
+    assert!(rt; dirt.as_slice() == case.dirt, "{name}: dirt as a list");
+}
+
+#[test]
+fn intervals_are_accumulated(rt: HostRuntime) -> Result<(), Fail> {
+    for case in &CASES {
+        let acc = accumulated(&rt, rt.alloc(), 4, 3, case.presents)?;
+        check(&rt, acc, case);
+    }
+    Ok(())
+}
+
 #[test]
 fn too_many_rectangles_are_rounded(rt: HostRuntime) -> Result<(), Fail> {
-    let alloc = rt.alloc();
-    let start: Acc<Plane> = Acc::start(alloc, 130, 1)?;
-    let first = more(&rt, start, &fills(&rt, alloc, 0, 128)?)?;
-    assert_eq!(rt; first.dirt().len(), MAX_RECTS);
-    assert_eq!(rt; first.coalesced(), false);
-    let second = more(&rt, first, &fills(&rt, alloc, 128, 130)?)?;
-    assert_eq!(rt; second.dirt(), [rect!(0, 0, 130, 1)].as_slice());
-    assert_eq!(rt; second.coalesced(), true);
-    let third = more(&rt, second, &fills(&rt, alloc, 0, 0)?)?;
-    assert_eq!(rt; third.dirt(), [rect!(0, 0, 130, 1)].as_slice());
-    assert_eq!(rt; third.coalesced(), true);
+    let most = accumulated(&rt, rt.alloc(), 130, 1, &[SIXTY_FOUR])?;
+    assert_eq!(rt; most.dirt().len(), MAX_RECTS);
+    assert_eq!(rt; most.coalesced(), false);
+    for case in &ROUNDED {
+        let acc = accumulated(&rt, rt.alloc(), 130, 1, case.presents)?;
+        check(&rt, acc, case);
+    }
     Ok(())
 }
 

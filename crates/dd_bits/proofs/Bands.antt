@@ -2,14 +2,14 @@
 use Rattle.std.proofs.Common.{◌≡◌, ◌≢◌, ℕ, zero, suc, ◌+◌, ◌-◌, ◌<◌, ◌≤◌, List, [], ◌++◌, Bool, true, false, not, length, refl, sym, ap, ◌∙◌, arith, append_assoc, inl, inr}
 use Rattle.std.proofs.Math.Path.{fun_ext}
 use Rattle.std.proofs.lemmas.List.{append-nil, same_lists, get_or_default}
-use Rattle.std.proofs.lemmas.Bool.{cases_lt, false≢true, lt-ltb, and_from, and_parts}
+use Rattle.std.proofs.lemmas.Bool.{cases_lt, cond-true, cond-false, false≢true, lt-ltb, and_from, and_parts}
 use Rattle.std.specs.List.{flat_map, range_with_len, list_all}
 use Rattle.dd_geom.specs.declared.rect.Rect.{Rect}
 use Rattle.dd_geom.specs.Grid.{Grid, row}
 use Rattle.dd_geom.proofs.GridLemmas.{value_at-right}
 use Rattle.dd_bits.specs.Area.{is_in}
 use Rattle.dd_bits.specs.CanonicalList.{row_runs, is_marked, alike, same_rows, starts_band, band_end, band_at, canonical_list}
-use Rattle.dd_bits.proofs.RunEnd.{if_true, if_false, IsEnd, run_end-IsEnd}
+use Rattle.dd_bits.proofs.RunEnd.{IsEnd, run_end-IsEnd}
 use Rattle.dd_bits.proofs.RowRuns.{not_true, row_runs-row, is_marked-row, run_end_is, run_end-stop}
 
 alike-same : (a b : Bool) → alike a b ≡ true → a ≡ b
@@ -135,13 +135,13 @@ bands_from g y n = flat_map (band_at g) (range_with_len y n)
 -- a row that starts no band may be left out
 pub bands_from-next :
     (g : Grid Bool) (y n : ℕ) → starts_band g y ≡ false → bands_from g y (suc n) ≡ bands_from g (y + 1) n
-bands_from-next g y n e = ap (λ v. v ++ bands_from g (y + 1) n) (if_false (starts_band g y) _ _ e)
+bands_from-next g y n e = ap (λ v. v ++ bands_from g (y + 1) n) (cond-false (starts_band g y) _ _ e)
 
 -- and one that starts a band stands in front
 pub bands_from-band :
     (g : Grid Bool) (y n : ℕ) → starts_band g y ≡ true
     → bands_from g y (suc n) ≡ row_runs (λ x. is_in g x y) g.width y (band_end g y) ++ bands_from g (y + 1) n
-bands_from-band g y n e = ap (λ v. v ++ bands_from g (y + 1) n) (if_true (starts_band g y) _ _ e)
+bands_from-band g y n e = ap (λ v. v ++ bands_from g (y + 1) n) (cond-true (starts_band g y) _ _ e)
 
 -- the rows of a band below its first one start none
 pub skip_band :

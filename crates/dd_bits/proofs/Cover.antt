@@ -2,7 +2,7 @@
 use Rattle.std.proofs.Common.{◌≡◌, ℕ, ◌⊎◌, zero, suc, ◌+◌, ◌-◌, ◌<◌, ◌≤◌, List, [], ◌∷◌, ◌++◌, Bool, true, false, ◌&&◌, nat_lt, nat_le, if◌then◌else◌, count_by, All, IsTrue, zero-add, add-zero, refl, sym, ap, ◌∙◌, arith, rules, tests, inl, inr}
 use Rattle.std.proofs.lemmas.List.Sums.{sum_by-append}
 use Rattle.std.proofs.lemmas.List.Elements.{All-append, All-nil, All-cons, All-same}
-use Rattle.std.proofs.lemmas.Bool.{cases_lt, lt-ltb, le-ltb, le-leb, lt-leb, and_left, and_right}
+use Rattle.std.proofs.lemmas.Bool.{cases_lt, cond-true, cond-false, lt-ltb, le-ltb, le-leb, lt-leb, and_left, and_right}
 use Rattle.dd_geom.specs.declared.rect.Rect.{Rect}
 use Rattle.dd_geom.specs.Rect.{has, is_inside}
 use Rattle.dd_geom.specs.Grid.{Grid}
@@ -10,7 +10,7 @@ use Rattle.dd_geom.proofs.GridLemmas.{value_at-right, value_at-below}
 use Rattle.dd_bits.specs.Area.{is_in}
 use Rattle.dd_bits.specs.CanonicalList.{run_end, starts_run, rect_from, run_at, row_runs, same_rows, starts_band, band_end, band_at, canonical_list, ListCovers, ListInside}
 use Rattle.dd_bits.proofs.RowRuns.{runs_from, no_start}
-use Rattle.dd_bits.proofs.RunEnd.{if_true, if_false, run_end-suc, run_end-here, IsEnd, end_further, run_end-IsEnd}
+use Rattle.dd_bits.proofs.RunEnd.{run_end-suc, run_end-here, IsEnd, end_further, run_end-IsEnd}
 use Rattle.dd_bits.proofs.Bands.{bands_from, bands_from-next, bands_from-band, IsBandEnd, band_end-is, same_rows-at, same_rows-ext, inner_band, next_band}
 
 -- how many rectangles of a list cover a point
@@ -82,7 +82,7 @@ covers_none p w top bottom x y k e h = record {
 no_run :
     (p : ℕ → Bool) (w top bottom n k : ℕ) → starts_run p k ≡ false
     → runs_from p w top bottom k (suc n) ≡ runs_from p w top bottom (k + 1) n
-no_run p w top bottom n k e = ap (λ v. v ++ runs_from p w top bottom (k + 1) n) (if_false (starts_run p k) _ _ e)
+no_run p w top bottom n k e = ap (λ v. v ++ runs_from p w top bottom (k + 1) n) (cond-false (starts_run p k) _ _ e)
 
 covers_unmarked :
     (p : ℕ → Bool) (w top bottom x y n k : ℕ) → p k ≡ false → Covers p w top bottom x y n (k + 1)
@@ -111,7 +111,7 @@ covers_marked p w top bottom x y n k m e above under rest =
       fresh = λ f.
           let start : starts_run p k ≡ true = rw (m, f) refl in
           let one : run_at p w top bottom k ≡ rect_from k top end bottom ∷ [] =
-          if_true (starts_run p k) _ _ start
+          cond-true (starts_run p k) _ _ start
           ∙ ap (λ v. rect_from k top v bottom ∷ []) (ap (run_end p k) fuel ∙ run_end-suc p k n m) in
           ap (λ v. covering x y (v ++ after)) one
           ∙ covering-append x y (rect_from k top end bottom ∷ []) after
@@ -292,7 +292,7 @@ inside_run p w h top bottom k some down across =
           (omega (arith, end, is_end.within))
           some down)
       | false ↦ λ m.
-          let none : run_at p w top bottom k ≡ [] = if_false (starts_run p k) _ _ (no_start p k m) in
+          let none : run_at p w top bottom k ≡ [] = cond-false (starts_run p k) _ _ (no_start p k m) in
           All-same (Inside w h) (run_at p w top bottom k) [] none (All-nil (Inside w h))
     ] in
     cases (p k) refl

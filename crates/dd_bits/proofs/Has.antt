@@ -1,7 +1,7 @@
 -- A rectangle is in the canonical list exactly where it is a maximal run of a band.
 use Rattle.std.proofs.Common.{◌≡◌, ℕ, zero, suc, ◌+◌, ◌-◌, ◌<◌, ◌≤◌, List, [], ◌∷◌, Bool, true, false, not, ◌&&◌, nat_lt, if◌then◌else◌, refl, sym, ap, subst, ◌∙◌, arith, inl, inr}
 use Rattle.std.specs.List.{flat_map, range_with_len, Contains}
-use Rattle.std.proofs.lemmas.Bool.{cases_lt, false≢true, lt-ltb, and_parts, not-true}
+use Rattle.std.proofs.lemmas.Bool.{cases_lt, cond-true, false≢true, lt-ltb, and_parts, not-true}
 use Rattle.std.proofs.lemmas.List.Elements.{Contains-append_left, Contains-append_right, Contains-append_cases, Contains-push, Contains-push_cases}
 use Rattle.dd_geom.specs.declared.rect.Rect.{Rect}
 use Rattle.dd_geom.specs.Rect.{place}
@@ -9,7 +9,7 @@ use Rattle.dd_geom.specs.Grid.{Grid}
 use Rattle.dd_geom.proofs.GridLemmas.{value_at-right}
 use Rattle.dd_bits.specs.Area.{is_in}
 use Rattle.dd_bits.specs.CanonicalList.{run_end, starts_run, rect_from, run_at, row_runs, same_rows, starts_band, band_end, band_at, canonical_list, IsMaximalRun, IsBand, ListHas}
-use Rattle.dd_bits.proofs.RunEnd.{if_true, run_end-suc, IsEnd, run_end-IsEnd}
+use Rattle.dd_bits.proofs.RunEnd.{run_end-suc, IsEnd, run_end-IsEnd}
 use Rattle.dd_bits.proofs.RowRuns.{first_start, one_run, run_end-stop}
 use Rattle.dd_bits.proofs.Bands.{IsBandEnd, band_end-is, band_end-found}
 
@@ -158,7 +158,7 @@ maximal_is_listed g left top right bottom r b =
     let end : bottom ≡ band_end g top =
     band_end-found g top bottom b.some b.within (λ y c d. b.same y (omega arith) d) b.below in
     let band : band_at g top ≡ row_runs p g.width top bottom =
-    if_true (starts_band g top) _ _ (band_starts g top b.above) ∙ ap (row_runs p g.width top) (sym end) in
+    cond-true (starts_band g top) _ _ (band_starts g top b.above) ∙ ap (row_runs p g.width top) (sym end) in
     in_member (band_at g) g.height 0 top rect (omega arith) (omega (arith, b.some, b.within))
     (subst (λ rs. Contains rs rect) (sym band) in_row)
 

@@ -2,10 +2,10 @@
 use Rattle.std.proofs.Common.{◌≡◌, ◌≢◌, ℕ, zero, suc, ◌+◌, ◌-◌, ◌<◌, ◌≤◌, List, [], ◌∷◌, ◌++◌, Bool, true, false, not, ◌&&◌, nat_lt, refl, sym, ap, ◌∙◌, arith, append_assoc, length, ◌*◌, rules, tests, inl, inr}
 use Rattle.std.proofs.Math.Path.{fun_ext}
 use Rattle.std.proofs.lemmas.List.{append-nil, get_or-take, get_or-drop, get_or_past}
-use Rattle.std.proofs.lemmas.Bool.{cases_lt, false≢true}
+use Rattle.std.proofs.lemmas.Bool.{cases_lt, cond-true, cond-false, false≢true}
 use Rattle.std.specs.List.{flat_map, range_with_len}
 use Rattle.dd_geom.specs.declared.rect.Rect.{Rect}
-use Rattle.dd_bits.proofs.RunEnd.{if_true, if_false, run_end-suc, run_end-here}
+use Rattle.dd_bits.proofs.RunEnd.{run_end-suc, run_end-here}
 use Rattle.dd_geom.specs.Grid.{Grid, row}
 use Rattle.dd_geom.proofs.GridLemmas.{value_at-place, value_at-right}
 use Rattle.dd_bits.specs.Area.{is_in}
@@ -56,7 +56,7 @@ skip p w top bottom zero k n j m e f h =
     ap (λ v. runs_from p w top bottom v n) a ∙ ap (runs_from p w top bottom j) b
 skip p w top bottom (suc i) k zero j m e f h = absurd (omega arith)
 skip p w top bottom (suc i) k (suc n) j m e f h =
-    ap (λ v. v ++ runs_from p w top bottom (k + 1) n) (if_false (starts_run p k) _ _ (h k (omega arith) (omega arith)))
+    ap (λ v. v ++ runs_from p w top bottom (k + 1) n) (cond-false (starts_run p k) _ _ (h k (omega arith) (omega arith)))
     ∙ skip p w top bottom i (k + 1) n j m (omega arith) (omega arith) (λ x a b. h x (omega arith) b)
 
 -- a run ends where its columns do, or where its row does
@@ -92,7 +92,7 @@ pub one_run :
 one_run p w top bottom left right s r l =
     let a : run_end p left (w - left) ≡ right =
     run_end_is p (right - left) (w - left) left right (omega arith) (omega arith) r.marked (λ _. r.end) in
-    if_true (starts_run p left) _ _ s ∙ ap (λ e. rect_from left top e bottom ∷ []) a
+    cond-true (starts_run p left) _ _ s ∙ ap (λ e. rect_from left top e bottom ∷ []) a
 
 unmarked_before :
     (p : ℕ → Bool) (from left : ℕ) → (0 < from → p from ≡ false) → HasNone p true from left → from ≤ left

@@ -1,23 +1,17 @@
 -- Where a run ends.
 use Rattle.std.proofs.Common.{◌≡◌, ℕ, zero, suc, ◌+◌, ◌<◌, ◌≤◌, Bool, true, false, if◌then◌else◌, refl, ◌∙◌, ap, sym, arith, inl, inr}
-use Rattle.std.proofs.lemmas.Bool.{cases_lt}
+use Rattle.std.proofs.lemmas.Bool.{cases_lt, cond-true, cond-false}
 use Rattle.dd_bits.specs.CanonicalList.{run_end}
-
-pub if_true : {A : Type 0} (b : Bool) (x y : A) → b ≡ true → (if b then x else y) ≡ x
-if_true b x y e = rw e refl
-
-pub if_false : {A : Type 0} (b : Bool) (x y : A) → b ≡ false → (if b then x else y) ≡ y
-if_false b x y e = rw e refl
 
 -- one marked column further
 pub run_end-suc : (p : ℕ → Bool) (k n : ℕ) → p k ≡ true → run_end p k (suc n) ≡ run_end p (k + 1) n
 unfolding run_end
-run_end-suc p k n e = if_true (p k) _ _ e
+run_end-suc p k n e = cond-true (p k) _ _ e
 
 -- at an unmarked column
 pub run_end-here : (p : ℕ → Bool) (k n : ℕ) → p k ≡ false → run_end p k (suc n) ≡ k
 unfolding run_end
-run_end-here p k n e = if_false (p k) _ _ e
+run_end-here p k n e = cond-false (p k) _ _ e
 
 pub record IsEnd (p : ℕ → Bool) (k n e : ℕ) : Type 0 where
   pub from : k ≤ e

@@ -80,7 +80,12 @@ fn is_blank(row: &[bool]) -> bool
 
 /// Appends the rectangles of a row's runs, from left to right, each of the rows from `top` to
 /// `bottom - 1`.
-pub fn push_runs(out: &mut Vec<Rect>, row: &[bool], top: u32, bottom: u32) -> Result<(), AllocError>
+pub(crate) fn push_runs(
+    out: &mut Vec<Rect>,
+    row: &[bool],
+    top: u32,
+    bottom: u32,
+) -> Result<(), AllocError>
     requires width { length row.now ≤ MAX_SIDE }
     requires top { top < MAX_SIDE }
     requires bottom { bottom ≤ MAX_SIDE }

@@ -88,7 +88,7 @@ fn round_row(cells: &mut [bool], width: usize, height: usize, t: usize, down: us
 }
 
 /// Rounds a set to tiles of side `t`; `cells` has rows of `width` cells.
-pub fn round_to_tiles(cells: &mut [bool], width: usize, height: usize, t: usize)
+pub(crate) fn round_to_tiles(cells: &mut [bool], width: usize, height: usize, t: usize)
     requires side { 1 ≤ t }
     requires cells { length cells.old ≡ width * height }
     ensures { record { width = width; height = height; cells = cells.new }

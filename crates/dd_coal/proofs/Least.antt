@@ -1,8 +1,8 @@
 -- The least power, found from the first on, and that 13 is always enough.
-use Rattle.std.proofs.Common.{◌≡◌, ℕ, zero, suc, ◌+◌, ◌*◌, ◌/◌, ◌%◌, ◌^◌, ◌<◌, ◌≤◌, Bool, true, false, length, refl, sym, ap, ◌∙◌, if◌then◌else◌, arith, inl, inr, ◌⊎◌, ⊎_elim, add-one}
+use Rattle.std.proofs.Common.{◌≡◌, ℕ, zero, suc, ◌+◌, ◌*◌, ◌/◌, ◌%◌, ◌^◌, ◌<◌, ◌≤◌, Bool, true, false, ◌&&◌, ltb, length, refl, sym, ap, ◌∙◌, if◌then◌else◌, arith, inl, inr, ◌⊎◌, ⊎_elim, add-one}
 use Rattle.std.proofs.Math.Nat.{pow-suc, mod-lt}
 use Rattle.std.proofs.lemmas.Nat.{div-add-mod'}
-use Rattle.std.proofs.lemmas.Bool.{cases_lt, le-leb, leb-true, lt-leb}
+use Rattle.std.proofs.lemmas.Bool.{cases_lt, le-leb, leb-true, lt-leb, ltb-true, ltb-false, and_parts, and_cases}
 use Rattle.dd_geom.specs.Grid.{Grid}
 use Rattle.dd_bits.specs.Area.{is_in, IsArea}
 use Rattle.dd_bits.specs.CanonicalList.{canonical_list}
@@ -133,6 +133,22 @@ none_more g area j e long none i a b = ⊎_elim
     (λ (here : j ≤ i). ap (λ k. is_short (rounded_to k g)) (omega (arith, b))
     ∙ (ap is_short (sym e) ∙ lt-leb _ MAX_RECTS long))
     (cases_lt i j)
+
+-- what the test of going up says: a greater power is left, and the list is too long
+pub goes_on :
+    (power long : ℕ) (r : Bool) → r ≡ (ltb power MAX_POWER && ltb MAX_RECTS long) → r ≡ true
+    → (power < MAX_POWER) × (MAX_RECTS < long)
+goes_on power long r e t =
+    let both = and_parts (ltb power MAX_POWER) (ltb MAX_RECTS long) (sym e ∙ t) in
+    (ltb-true power MAX_POWER both.0, ltb-true MAX_RECTS long both.1)
+
+pub stops :
+    (power long : ℕ) (r : Bool) → r ≡ (ltb power MAX_POWER && ltb MAX_RECTS long) → r ≡ false
+    → (MAX_POWER ≤ power) ⊎ (long ≤ MAX_RECTS)
+stops power long r e t = ⊎_elim
+    (λ (last : ltb power MAX_POWER ≡ false). inl (ltb-false power MAX_POWER last))
+    (λ (few : ltb MAX_RECTS long ≡ false). inr (ltb-false MAX_RECTS long few))
+    (and_cases (ltb power MAX_POWER) (ltb MAX_RECTS long) (sym e ∙ t))
 
 -- what the search ends at is the least power, and the list is short
 pub record IsEnded (g area : Grid Bool) (p : ℕ) : Type 0 where

@@ -1,7 +1,7 @@
 -- A set that is all of a surface or nothing of it has a list of at most one rectangle.
 use Rattle.std.proofs.Common.{◌≡◌, ℕ, zero, suc, ◌+◌, ◌-◌, ◌<◌, ◌≤◌, Bool, true, false, List, [], ◌∷◌, ◌++◌, length, refl, ap, ◌∙◌, if◌then◌else◌, arith, length-append}
 use Rattle.std.specs.List.{flat_map, range_with_len, list_all}
-use Rattle.std.proofs.lemmas.Bool.{and_from, lt-ltb}
+use Rattle.std.proofs.lemmas.Bool.{and_from, lt-ltb, cond-false}
 use Rattle.dd_geom.specs.declared.rect.Rect.{Rect}
 use Rattle.dd_geom.specs.Grid.{Grid}
 use Rattle.dd_bits.specs.Area.{is_in}
@@ -29,9 +29,6 @@ at_most_one : (b : Bool) (r : Rect) → length (if b then r ∷ [] else []) ≤ 
 at_most_one true r = omega arith
 at_most_one false r = omega arith
 
-if_false : {A : Type 0} (b : Bool) (x y : A) → b ≡ false → (if b then x else y) ≡ y
-if_false b x y e = rw e refl
-
 -- no run starts after the first column of a row of one value
 no_later_start : (p : ℕ → Bool) (c : Bool) (x : ℕ) → 0 < x → p x ≡ c → p (x - 1) ≡ c → starts_run p x ≡ false
 no_later_start p true x l e f = rw (e, lt-ltb 0 x l, f) refl
@@ -41,7 +38,7 @@ one_run : (p : ℕ → Bool) (w top bottom : ℕ) (c : Bool) → ((x : ℕ) → 
     → length (row_runs p w top bottom) ≤ 1
 one_run p w top bottom c all =
     first_alone (run_at p w top bottom) w (at_most_one (starts_run p 0) _)
-    (λ x a b. if_false (starts_run p x) _ [] (no_later_start p c x (omega arith) (all x b) (all (x - 1) (omega arith))))
+    (λ x a b. cond-false (starts_run p x) _ [] (no_later_start p c x (omega arith) (all x b) (all (x - 1) (omega arith))))
 
 alike_same : (a b c : Bool) → a ≡ c → b ≡ c → alike a b ≡ true
 alike_same a b true e f = rw (e, f) refl
@@ -76,7 +73,7 @@ few_rows g c (suc h) e all =
     first_alone (band_at g) (suc h)
     (few_if (starts_band g 0) _
     (one_run (λ x. is_in g x 0) g.width 0 (band_end g 0) c (λ x a. all x 0 a (omega arith))))
-    (λ y a b. if_false (starts_band g y) _ [] (no_later_band g c y (omega arith) (omega arith) all))
+    (λ y a b. cond-false (starts_band g y) _ [] (no_later_band g c y (omega arith) (omega arith) all))
 
 pub short_list : (g : Grid Bool) (c : Bool) → ((x y : ℕ) → x < g.width → y < g.height → is_in g x y ≡ c)
     → length (canonical_list g) ≤ 1

@@ -1,6 +1,6 @@
 //! A set of points rounded until its list is short enough.
 
-ghost use Rattle.std.specs.Prelude.{◌≡◌, ◌≤◌, length, nat_lt, IfOk};
+ghost use Rattle.std.specs.Prelude.{◌≡◌, ◌≤◌, ◌&&◌, length, nat_lt, IfOk, OnOk};
 ghost use Rattle.dd_bits.specs.CanonicalList.{canonical_list};
 ghost use Rattle.dd_coal.specs.Power.{power, rounded_to};
 
@@ -22,11 +22,20 @@ pub struct Coalesced<A: Area> {
     pub power: u32,
 }
 
-/// Whether there are more rectangles than a list may have.
-fn are_too_many(rects: &Rects) -> bool
-    ensures { result ≡ nat_lt MAX_RECTS (length rects.now) }
+/// Whether a greater power has to be tried: there is one, and there are more rectangles than a list
+/// may have.
+fn must_go_up(power: u32, rects: &Rects) -> bool
+    ensures { result ≡ (nat_lt power MAX_POWER && nat_lt MAX_RECTS (length rects.now)) }
 {
-    rects.as_slice().len() > MAX_RECTS
+    power < MAX_POWER && rects.as_slice().len() > MAX_RECTS
+}
+
+/// Rounds a set to tiles of side 2^power.
+fn round_by<A: Area>(area: &mut A, power: u32) -> Result<(), AllocError>
+    requires { power ≤ MAX_POWER }
+    ensures { OnOk result (A.points area.new ≡ rounded_to power (A.points area.old)) }
+{
+    area.tiles(2u32.pow(power))
 }
 
 /// Rounds a set by the least power, from 0, at which its list has at most 64 rectangles. The set is
@@ -40,9 +49,9 @@ pub fn coalesce<A: Area>(area: A) -> Result<Coalesced<A>, AllocError>
     let mut area = area;
     let mut power = 0;
     let mut rects = area.list()?;
-    while power < MAX_POWER && are_too_many(&rects) {
+    while must_go_up(power, &rects) {
         power += 1;
-        area.tiles(2u32.pow(power))?;
+        round_by(&mut area, power)?;
         rects = area.list()?;
     }
     Ok(Coalesced { area, rects, power })
