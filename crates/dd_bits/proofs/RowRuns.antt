@@ -56,7 +56,8 @@ skip p w top bottom zero k n j m e f h =
     ap (λ v. runs_from p w top bottom v n) a ∙ ap (runs_from p w top bottom j) b
 skip p w top bottom (suc i) k zero j m e f h = absurd (omega arith)
 skip p w top bottom (suc i) k (suc n) j m e f h =
-    ap (λ v. v ++ runs_from p w top bottom (k + 1) n) (cond-false (starts_run p k) _ _ (h k (omega arith) (omega arith)))
+    ap (λ v. v ++ runs_from p w top bottom (k + 1) n)
+    (cond-false (starts_run p k) _ _ (h k (omega arith) (omega arith)))
     ∙ skip p w top bottom i (k + 1) n j m (omega arith) (omega arith) (λ x a b. h x (omega arith) b)
 
 -- a run ends where its columns do, or where its row does

@@ -38,7 +38,8 @@ one_run : (p : ℕ → Bool) (w top bottom : ℕ) (c : Bool) → ((x : ℕ) → 
     → length (row_runs p w top bottom) ≤ 1
 one_run p w top bottom c all =
     first_alone (run_at p w top bottom) w (at_most_one (starts_run p 0) _)
-    (λ x a b. cond-false (starts_run p x) _ [] (no_later_start p c x (omega arith) (all x b) (all (x - 1) (omega arith))))
+    (λ x a b. cond-false (starts_run p x) _ []
+    (no_later_start p c x (omega arith) (all x b) (all (x - 1) (omega arith))))
 
 alike_same : (a b c : Bool) → a ≡ c → b ≡ c → alike a b ≡ true
 alike_same a b true e f = rw (e, f) refl

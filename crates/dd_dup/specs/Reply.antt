@@ -38,7 +38,8 @@ without_frame m = record m { held = None }
 
 -- the first cause that refuses an acquire, or what it is given
 abbrev pub granted : {A : Type 0} → Memory → History → A → Result A DupRefusal
-granted m h given = if is_some m.held then Err InvalidCall else ok_or (where_any (presents (news h m.mark)) given) WaitTimeout
+granted m h given =
+    if is_some m.held then Err InvalidCall else ok_or (where_any (presents (news h m.mark)) given) WaitTimeout
 
 -- the answer to an acquire
 abbrev pub acquire_reply : Memory → History → Result Frame DupRefusal

@@ -21,11 +21,13 @@ interval_of w h (Some g) = g.acc
 -- and what is gathered after one event more, of this number: a present is added
 abbrev pub gathered_next : ℕ → ℕ → Option Gathered → ℕ → Option (List Op) → Option Gathered
 gathered_next w h so_far number None = so_far
-gathered_next w h so_far number (Some ops) = Some (record { acc = with_present (interval_of w h so_far) ops; last = number })
+gathered_next w h so_far number (Some ops) =
+    Some (record { acc = with_present (interval_of w h so_far) ops; last = number })
 
 -- what is gathered of presents, of which the last has this number
 abbrev pub gathered_of : ℕ → ℕ → List (List Op) → ℕ → Option Gathered
-gathered_of w h presents last = where_any presents (record { acc = fold with_present (nothing w h) presents; last = last })
+gathered_of w h presents last =
+    where_any presents (record { acc = fold with_present (nothing w h) presents; last = last })
 
 -- of some entries, where the first of them stands at a place
 unfoldable pub gathered : ℕ → ℕ → ℕ → List Entry → Option Gathered

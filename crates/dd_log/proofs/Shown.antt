@@ -26,11 +26,13 @@ SameSize-drawn_if : (p : Grid Cell) (present : Option (List Op)) → SameSize p 
 SameSize-drawn_if p None = record { width = refl; height = refl }
 SameSize-drawn_if p (Some ops) = SameSize-drawn p ops
 
-IsPicture-drawn_if : (p : Grid Cell) (present : Option (List Op)) → IsPicture p → present_fits p.width p.height present ≡ true → IsPicture (drawn_if p present)
+IsPicture-drawn_if :
+    (p : Grid Cell) (present : Option (List Op)) → IsPicture p → present_fits p.width p.height present ≡ true → IsPicture (drawn_if p present)
 IsPicture-drawn_if p None is t = is
 IsPicture-drawn_if p (Some ops) is t = IsPicture-drawn p ops is t
 
-IsPicture-shown : (p : Grid Cell) (es : List Entry) → IsPicture p → list_all (λ e. event_fits p.width p.height e.event) es ≡ true → IsPicture (shown p es)
+IsPicture-shown :
+    (p : Grid Cell) (es : List Entry) → IsPicture p → list_all (λ e. event_fits p.width p.height e.event) es ≡ true → IsPicture (shown p es)
 IsPicture-shown p [] is t = is
 IsPicture-shown p (e ∷ es) is t =
     let both = and_parts (event_fits p.width p.height e.event) _ t in
@@ -38,7 +40,9 @@ IsPicture-shown p (e ∷ es) is t =
     IsPicture-shown (drawn_if p (present_of e.event)) es (IsPicture-drawn_if p (present_of e.event) is both.0)
     (rw (same.width, same.height) both.1)
 
-IsPicture-picture : (h : History) → IsPicture (black (desk_mode h).width (desk_mode h).height) → entries_fit (desk_mode h).width (desk_mode h).height h.entries ≡ true → IsPicture (picture h)
+IsPicture-picture :
+    (h : History) → IsPicture (black (desk_mode h).width (desk_mode h).height)
+    → entries_fit (desk_mode h).width (desk_mode h).height h.entries ≡ true → IsPicture (picture h)
 unfolding picture entries_fit
 IsPicture-picture h is t = IsPicture-shown (black (desk_mode h).width (desk_mode h).height) h.entries is t
 

@@ -100,11 +100,14 @@ verdict (Some cause) = Err cause
 
 -- the list with this entry more is legal where the list is
 unfoldable pub may_add : History → Entry → Bool
-may_add h e = nat_lt e.actor MAX_ACTORS && nat_lt (last_step h.entries e.actor) e.step && is_none (refusal h e.event) && opens_freely (desk h.entries) e.event
+may_add h e =
+    nat_lt e.actor MAX_ACTORS && nat_lt (last_step h.entries e.actor) e.step && is_none (refusal h e.event)
+    && opens_freely (desk h.entries) e.event
 
 abbrev pub legal_after : Spec → List Entry → List Entry → Bool
 legal_after spec before [] = true
-legal_after spec before (e ∷ es) = may_add (record { spec = spec; entries = before }) e && legal_after spec (before ++ e ∷ []) es
+legal_after spec before (e ∷ es) =
+    may_add (record { spec = spec; entries = before }) e && legal_after spec (before ++ e ∷ []) es
 
 -- each entry was one that the list before it may have
 unfoldable pub legal : History → Bool

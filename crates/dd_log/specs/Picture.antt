@@ -37,4 +37,5 @@ view h = seen (picture h)
 -- of a legal list, in a mode of a size that surfaces have, the picture is a picture, and what is seen of it a surface
 abbrev pub LegalIsShown : Type 0
 LegalIsShown =
-    (h : History) → IsSize (desk_mode h).width (desk_mode h).height → legal h ≡ true → IsPicture (picture h) × IsSurface (view h)
+    (h : History) → IsSize (desk_mode h).width (desk_mode h).height → legal h ≡ true
+    → IsPicture (picture h) × IsSurface (view h)

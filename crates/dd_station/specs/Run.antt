@@ -28,7 +28,8 @@ pub record State : Type 0 where
   pub steps : ℕ
 
 abbrev pub start : Spec → List ℕ → State
-start spec clients = record { history = begun spec; clients = clients; memories = replicate (length clients) None; steps = 0 }
+start spec clients =
+    record { history = begun spec; clients = clients; memories = replicate (length clients) None; steps = 0 }
 
 -- a call is of one of n clients, numbered from 1
 abbrev pub IsOfClient : ℕ → Step → Type 0
@@ -73,13 +74,18 @@ draw_history None h e = with_entry h e
 draw_history (Some cause) h e = h
 
 abbrev pub draw_outcome : State → draws.Draw → Answer × State
-draw_outcome s d =
-    (draw_answer (allowed s.history d) (next_number s), one_step_on s (draw_history (allowed s.history d) s.history (entry_of s 0 (events.Draw d))))
+draw_outcome s d = (
+  draw_answer (allowed s.history d) (next_number s),
+  one_step_on s (draw_history (allowed s.history d) s.history (entry_of s 0 (events.Draw d))),
+)
 
 -- an opening is the next entry, and the client's memory is fresh; or it is refused
 abbrev pub opening_outcome : Result ℕ OpenRefusal → State → ℕ → Answer × State
-opening_outcome (Ok slot) s k =
-    (Opened (next_number s) slot, with_memory (one_step_on s (with_entry s.history (entry_of s k (events.Opened slot (app_of s k))))) k (Some (fresh_memory s.history (length s.history.entries))))
+opening_outcome (Ok slot) s k = (
+  Opened (next_number s) slot,
+  with_memory (one_step_on s (with_entry s.history (entry_of s k (events.Opened slot (app_of s k))))) k
+      (Some (fresh_memory s.history (length s.history.entries))),
+)
 opening_outcome (Err cause) s k = (NotOpened cause, one_step_on s s.history)
 
 -- what a client is answered that may have no duplicator, and its memory then

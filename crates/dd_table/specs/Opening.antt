@@ -12,4 +12,6 @@ least_free (Some slot) h = if is_full h then Err Full else Ok slot
 
 -- the first cause that stands, or the least free slot
 abbrev pub opening : History → ℕ → Result ℕ OpenRefusal
-opening h app = if is_some (position (is_app app) (desk h.entries).slots) then Err AlreadyDuplicating else least_free (position is_none (desk h.entries).slots) h
+opening h app =
+    if is_some (position (is_app app) (desk h.entries).slots) then Err AlreadyDuplicating
+    else least_free (position is_none (desk h.entries).slots) h

@@ -25,8 +25,10 @@ copy_dirt-requires c =
     let seen_is : c.args.surface.now ≡ seen c.args.picture.now = c.requires.seen in
     let w = c.args.picture.now.width in
     let h = c.args.picture.now.height in
-    let wide : c.move_all.new.surface.width ≡ w = c.move_all.ensures.size.width ∙ ap (λ (s : Grid ℕ). s.width) seen_is in
-    let high : c.move_all.new.surface.height ≡ h = c.move_all.ensures.size.height ∙ ap (λ (s : Grid ℕ). s.height) seen_is in
+    let wide : c.move_all.new.surface.width ≡ w =
+    c.move_all.ensures.size.width ∙ ap (λ (s : Grid ℕ). s.width) seen_is in
+    let high : c.move_all.new.surface.height ≡ h =
+    c.move_all.ensures.size.height ∙ ap (λ (s : Grid ℕ). s.height) seen_is in
     record {
       inside =
           subst (λ (n : ℕ). All (λ r. IsTrue (is_inside r n c.move_all.new.surface.height)) c.args.rects.now) (sym wide)
