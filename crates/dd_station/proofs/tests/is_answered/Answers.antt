@@ -1,4 +1,4 @@
-use Rattle.std.proofs.Common.{◌≡◌, ◌+◌, ◌∙◌, ap, length}
+use Rattle.std.proofs.Common.{◌∙◌, ap, length}
 use Rattle.dd_station.specs.Run.{State}
 use Rattle.dd_station.proofs.Stepped.{stepped_next}
 use Rattle.dd_station.proofs.tests.is_answered.Goals as goal
