@@ -7,20 +7,18 @@ use Rattle.dd_station.specs.declared.steps.Step.{Step}
 use Rattle.dd_station.specs.declared.steps.Step.TheVariants as steps
 use Rattle.dd_station.specs.Run.{State, next, asks, client_outcome, opening_outcome, app_of}
 
--- the second has the clients of the first, and one step more
-pub record OneStepOn (old new : State) : Type 0 where
-  pub clients : new.clients ≡ old.clients
-  pub steps : new.steps ≡ old.steps + 1
+stepped_opening : (r : Result ℕ OpenRefusal) (s : State) (k : ℕ)
+    → ((opening_outcome r s k).1.clients ≡ s.clients) × ((opening_outcome r s k).1.steps ≡ s.steps + 1)
+stepped_opening (Ok slot) s k = (refl, refl)
+stepped_opening (Err cause) s k = (refl, refl)
 
-on_opening : (r : Result ℕ OpenRefusal) (s : State) (k : ℕ) → OneStepOn s (opening_outcome r s k).1
-on_opening (Ok slot) s k = record { clients = refl; steps = refl }
-on_opening (Err cause) s k = record { clients = refl; steps = refl }
+stepped_client : (s : State) (k : ℕ) (call : Option DupCall)
+    → ((client_outcome s k call).1.clients ≡ s.clients) × ((client_outcome s k call).1.steps ≡ s.steps + 1)
+stepped_client s k None = stepped_opening (opening s.history (app_of s k)) s k
+stepped_client s k (Some call) = (refl, refl)
 
-on_client : (s : State) (k : ℕ) (call : Option DupCall) → OneStepOn s (client_outcome s k call).1
-on_client s k None = on_opening (opening s.history (app_of s k)) s k
-on_client s k (Some call) = record { clients = refl; steps = refl }
-
-pub on_next : (s : State) (t : Step) → OneStepOn s (next s t).1
+pub stepped_next : (s : State) (t : Step)
+    → ((next s t).1.clients ≡ s.clients) × ((next s t).1.steps ≡ s.steps + 1)
 unfolding next
-on_next s (steps.Draw d) = record { clients = refl; steps = refl }
-on_next s (steps.Call k call) = on_client s k (asks call)
+stepped_next s (steps.Draw d) = (refl, refl)
+stepped_next s (steps.Call k call) = stepped_client s k (asks call)
