@@ -1,5 +1,5 @@
 -- What is drawn on the cells of a picture or a surface is the grid that its definition names.
-use Rattle.std.proofs.Common.{◌≡◌, ℕ, ◌+◌, ◌-◌, ◌*◌, ◌/◌, ◌%◌, ◌<◌, ◌≤◌, ◌&&◌, Bool, true, false, cond, eqb, leb, ltb, List, map, length, get_or, set, replicate, slice_range, refl, sym, ap, ◌∙◌, subst, inl, inr, arith}
+use Rattle.std.proofs.Common.{◌≡◌, ℕ, ◌+◌, ◌-◌, ◌*◌, ◌/◌, ◌%◌, ◌<◌, ◌≤◌, ◌&&◌, Bool, true, false, cond, eqb, leb, ltb, List, map, length, get_or, set, replicate, slice_range, sym, ap, ◌∙◌, subst, inl, inr, arith}
 use Rattle.std.proofs.lemmas.Bool.{eq-eqb, eqb-true, leb-true, ltb-true, and_from, and_parts, cond-true, cond-false, cases_eq, false_from_ne_true}
 use Rattle.std.proofs.lemmas.List.{get_or-map, get_or-replicate, get_or-set_same, get_or-set_other, length-set, length-replicate}
 use Rattle.std.proofs.lemmas.List.Elements.{All-from_get_or}
@@ -11,7 +11,7 @@ use Rattle.dd_geom.specs.declared.rect.Sides.{Sides}
 use Rattle.dd_geom.specs.Rect.{between, has, sides}
 use Rattle.dd_geom.specs.Grid.{Grid, grid}
 use Rattle.dd_geom.proofs.GridLemmas.{grid_from_places, grid_from_agree, value_at-cell, value_at-place}
-use Rattle.dd_geom.proofs.PaintLemmas.{IsDrawn, IsPainted, grid_from_drawn, grid_from_painted}
+use Rattle.dd_geom.proofs.PaintLemmas.{IsDrawn, IsPainted, cond_same, grid_from_drawn, grid_from_painted}
 use Rattle.dd_grid.specs.Cell.{Cell, cell_of, plain, seen_cell}
 use Rattle.dd_grid.specs.Drawing.{ShowsAll, any_hidden, cell_at, colour_at, filled, image_at, place_in, with_colour, taken}
 
@@ -101,11 +101,6 @@ get_or-colour_run colours from to place i hidden d fits across e =
     get_or-map (cell_of hidden) (slice_range colours from to) i 0 d (omega arith)
     ∙ ap (cell_of hidden)
     (get_or-between colours from to i 0 (omega arith) ∙ ap (λ n. get_or colours n 0) e)
-
--- a choice whose first value is used only where the test holds
-cond_same : {A : Type 0} (b : Bool) (u v o : A) → (b ≡ true → u ≡ v) → cond b u o ≡ cond b v o
-cond_same true u v o e = e refl
-cond_same false u v o e = refl
 
 -- at a point of the rectangle, the colour of an image is the one at the point's place
 pub image_at-place :

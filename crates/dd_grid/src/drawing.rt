@@ -1,13 +1,13 @@
-//! An image written between four sides of a picture's cells, row by row.
+//! An image written between four sides of a picture's cells, row by row, and cells that are moved.
 
-ghost use Rattle.std.specs.Prelude.{◌≡◌, ℕ, ◌+◌, ◌-◌, ◌*◌, ◌/◌, ◌%◌, ◌<◌, length, map, All, slice_index_or, if◌then◌else◌};
-ghost use Rattle.dd_geom.specs.Rect.{AreInside, between};
+ghost use Rattle.std.specs.Prelude.{◌≡◌, ℕ, ◌+◌, ◌-◌, ◌*◌, ◌/◌, ◌%◌, ◌<◌, length, map, All, IsTrue, slice_index_or, if◌then◌else◌};
+ghost use Rattle.dd_geom.specs.Rect.{AreInside, between, is_move_inside};
 ghost use Rattle.dd_grid.specs.declared.cell.TheConstants.{COLOURS};
 ghost use Rattle.dd_grid.specs.Cell.{Cell, cell_of};
-ghost use Rattle.dd_grid.specs.Drawing.{place_in};
+ghost use Rattle.dd_grid.specs.Drawing.{place_in, moved_cells};
 
 use crate::cell::Pixel;
-use dd_geom::Sides;
+use dd_geom::{Move, Sides, scroll};
 
 /// Writes a cell of each colour.
 fn write_run(to: &mut [Pixel], colours: &[u32], hidden: bool)
@@ -49,4 +49,15 @@ pub(crate) fn write_image(
             hidden,
         );
     }
+}
+
+/// Copies whole cells to a move's destination, what is hidden as what is not; `cells` has rows of
+/// `width` cells.
+pub(crate) fn move_cells(cells: &mut [Pixel], width: usize, height: usize, m: Move)
+    requires inside { IsTrue (is_move_inside m width height) }
+    requires cells { length cells.old ≡ width * height }
+    ensures { record { width = width; height = height; cells = cells.new }
+        ≡ moved_cells (record { width = width; height = height; cells = cells.old }) m }
+{
+    scroll(cells, width, height, m);
 }

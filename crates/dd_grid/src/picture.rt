@@ -8,8 +8,8 @@ ghost use Rattle.dd_geom.specs.Grid.{SameSize};
 ghost use Rattle.dd_geom.specs.Rect.{IsSize, AreInside, is_inside, is_move_inside, points};
 
 use crate::cell::Pixel;
-use crate::drawing::write_image;
-use dd_geom::{Move, Rect, paint, scroll, sides_of};
+use crate::drawing::{move_cells, write_image};
+use dd_geom::{Move, Rect, paint, sides_of};
 use std::alloc::{AllocError, Global};
 use std::marker::Model;
 
@@ -128,7 +128,7 @@ impl Picture {
     {
         let width = self.width as usize;
         let height = self.height as usize;
-        scroll(&mut self.cells, width, height, m);
+        move_cells(&mut self.cells, width, height, m);
     }
 
     /// Whether some cell is hidden. Where nothing was ever covered no cell is looked at.
