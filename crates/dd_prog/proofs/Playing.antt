@@ -9,7 +9,7 @@ use Rattle.dd_io.proofs.Pieces.{AppendsPrefix-next}
 use Rattle.std.proofs.KnownBytes.{Appends-nil, Appends-trans}
 use Rattle.dd_station.specs.declared.steps.Step.{Step}
 use Rattle.dd_station.specs.Run.{State, next, answers, IsOfClient}
-use Rattle.dd_station.proofs.Stepped.{on_next}
+use Rattle.dd_station.proofs.Stepped.{stepped_next}
 use Rattle.dd_script.specs.Texts.{line, text}
 use Rattle.dd_prog.specs.declared.fault.RunFault.{RunFault}
 use Rattle.dd_prog.specs.declared.fault.RunFault.TheVariants as faults
@@ -78,15 +78,15 @@ pub so_far_more : {K : Type 0} (held : K → Option (List ℕ)) (count : K → �
     → t ≡ get_or ss k t → Took (side held count b c) (line (next state t).0) → count b ≤ count c
     → later ≡ (next state t).1 → SoFar (side held count a c) first later ss (k + 1)
 so_far_more held count a b c first state later ss k t so k_in is took rises later_is =
-    let kept = on_next state t in
+    let kept = stepped_next state t in
     let so_later = so.later in
     let counted = so.steps in
     subst (λ (s : State). SoFar (side held count a c) first s ss (k + 1)) (sym later_is) (record {
       wrote = so.wrote ++ line (next state t).0;
       took = Appends-trans (held a) (held b) (held c) so.wrote (line (next state t).0) so.took took;
       rest = split_rest first state ss k t so.wrote k_in is so.rest;
-      clients = kept.clients ∙ so.clients;
-      steps = omega (arith, kept.steps, counted);
+      clients = kept.0 ∙ so.clients;
+      steps = omega (arith, kept.1, counted);
       later = omega arith;
     })
 
