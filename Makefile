@@ -14,7 +14,7 @@ demo:
 		cd crates/ddup && $(RT) try -- replay < ../../$(FIRST)/script.json; \
 	fi
 
-# Proves every crate, lowest first, and leaves the program as bin/ddup once its answers to the
+# Proves every crate, lowest first and over what earlier checks kept, and leaves the program as bin/ddup once its answers to the
 # cases of examples/ are the right ones.
 build:
 	$(RT) all check
@@ -25,7 +25,7 @@ build:
 	cp crates/ddup/out/ddup bin/ddup
 	tools/run_cases bin/ddup
 
-# Proves every crate from nothing, tries the wrong bodies, and runs the tests and the programs.
+# Proves from nothing each crate that it hasn't passed on this machine, tries the wrong bodies, and runs the tests and the programs.
 test:
 	.ci/run
 
