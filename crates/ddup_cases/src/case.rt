@@ -25,7 +25,8 @@ enum Part {
 pub struct Case {
     name: String,
     words: Vec<String>,
-    status: String,
+    /// The line of the status that is wanted.
+    line: String,
     input: Vec<u8>,
     output: Vec<u8>,
     part: Part,
@@ -38,12 +39,21 @@ fn push_line(bytes: &mut Vec<u8>, line: &str) -> Result<(), AllocError> {
     Ok(())
 }
 
+/// The line of the status of this name: of Done nothing is printed.
+fn line_of(alloc: Global, name: &str) -> Result<String, AllocError> {
+    if name == "Done" {
+        Ok(String::new(alloc))
+    } else {
+        format!(in alloc; "{name}\n")
+    }
+}
+
 impl Case {
     pub fn new(alloc: Global) -> Case {
         Case {
             name: String::new(alloc),
             words: Vec::new(alloc),
-            status: String::new(alloc),
+            line: String::new(alloc),
             input: Vec::new(alloc),
             output: Vec::new(alloc),
             part: Part::Head,
@@ -74,7 +84,7 @@ impl Case {
         match key {
             "case" => self.name = String::from_str(alloc, rest)?,
             "word" => self.words.push(String::from_str(alloc, rest)?)?,
-            "status" => self.status = String::from_str(alloc, rest)?,
+            "status" => self.line = line_of(alloc, rest)?,
             "spaces" => self.input = vec![in alloc; b' '; rest.parse().unwrap_or(0)]?,
             _ => {}
         }
@@ -89,6 +99,6 @@ impl Case {
         let never = Numbers::from_vec(Vec::new(alloc));
         let mut sink = MemSink::new(alloc, PIECE, never);
         let status = plain(alloc, &self.words, &mut source, &mut sink);
-        Ok(judge(status, &self.status, sink.bytes(), &self.output))
+        Ok(judge(status, &self.line, sink.bytes(), &self.output))
     }
 }

@@ -1,7 +1,7 @@
 //! Whether a case went as it should.
 
 ghost use Rattle.std.specs.Prelude.{◌≡◌, ◌↔◌};
-ghost use Rattle.dd_prog.specs.Names.{name_of};
+ghost use Rattle.dd_prog.specs.Status.{line_of};
 
 use dd_prog::Status;
 use std::fmt;
@@ -21,7 +21,7 @@ impl fmt::Display for Verdict {
     fn fmt<W: fmt::Write>(&self, f: &mut fmt::Formatter<W>) -> fmt::Result {
         match self {
             Verdict::AsWanted => write!(f, "as wanted"),
-            Verdict::Ended(status) => write!(f, "ended with {}", status.name()),
+            Verdict::Ended(status) => write!(f, "ended with {status:?}"),
             Verdict::Wrote(place) => write!(f, "other output from byte {place} on"),
         }
     }
@@ -34,12 +34,12 @@ fn first_difference(got: &[u8], wanted: &[u8]) -> usize {
     alike.count()
 }
 
-/// Compares how a run ended and what it wrote with what was wanted.
-pub fn judge(status: Status, wanted_name: &str, got: &[u8], wanted: &[u8]) -> Verdict
+/// Compares how a run ended, told by the line of its status, and what it wrote with what was wanted.
+pub fn judge(status: Status, wanted_line: &str, got: &[u8], wanted: &[u8]) -> Verdict
     ensures { (result ≡ Verdict.AsWanted)
-        ↔ ((name_of status ≡ wanted_name.now) × (got.now ≡ wanted.now)) }
+        ↔ ((line_of status ≡ wanted_line.now) × (got.now ≡ wanted.now)) }
 {
-    if status.name() != wanted_name {
+    if status.line() != wanted_line {
         Verdict::Ended(status)
     } else if got == wanted {
         Verdict::AsWanted
