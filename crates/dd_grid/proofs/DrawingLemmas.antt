@@ -9,7 +9,7 @@ use Rattle.std.proofs.lemmas.Nat.{div-add-mod', div-mul-add, mod-mul-add, mul-ad
 use Rattle.dd_geom.specs.declared.rect.Rect.{Rect}
 use Rattle.dd_geom.specs.declared.rect.Sides.{Sides}
 use Rattle.dd_geom.specs.Rect.{between, has, sides}
-use Rattle.dd_geom.specs.Grid.{Grid, grid}
+use Rattle.dd_geom.specs.Grid.{Grid, grid, value_at}
 use Rattle.dd_geom.proofs.GridLemmas.{grid_from_places, grid_from_agree, value_at-cell, value_at-place}
 use Rattle.dd_geom.proofs.PaintLemmas.{IsDrawn, IsPainted, cond_same, grid_from_drawn, grid_from_painted}
 use Rattle.dd_grid.specs.Cell.{Cell, cell_of, plain, seen_cell}
@@ -23,17 +23,27 @@ grid_from_replicate {A} w h v cells e =
     grid_from_places v w h (λ _ _. v) cells (ap length e ∙ length-replicate (w * h) v) (λ k within.
     ap (λ (xs : List A). get_or xs k v) e ∙ get_or-replicate (w * h) k v v within)
 
--- painted cells are the filled picture
+-- painted cells are the grid with a rectangle of one value
+pub rect_from_painted :
+    {A : Type 0} (d : A) (g : Grid A) (r : Rect) (s : Sides) (v : A) (old new : List A)
+    → s ≡ sides r → old ≡ g.cells
+    → length g.cells ≡ g.width * g.height → length new ≡ g.width * g.height → IsPainted g.width s v old new
+    → record { width = g.width; height = g.height; cells = new }
+    ≡ grid g.width g.height (λ x y. cond (has r x y) v (value_at d g x y))
+rect_from_painted {A} d g r s v old new at_sides from long_old long_new painted =
+    let P : List A → Type 0 = λ cs. IsPainted g.width s v cs new in
+    grid_from_painted d g.width g.height s v g.cells new long_old long_new (subst P from painted)
+    ∙ ap (λ n. grid g.width g.height (λ x y. cond (between n x y) v (value_at d g x y))) at_sides
+
+-- and the filled picture, where the value is a plain cell
 pub filled_from_painted :
     (p : Grid Cell) (r : Rect) (c : ℕ) (s : Sides) (v : Cell) (old new : List Cell)
     → s ≡ sides r → v ≡ plain c → old ≡ p.cells
     → length p.cells ≡ p.width * p.height → length new ≡ p.width * p.height → IsPainted p.width s v old new
     → record { width = p.width; height = p.height; cells = new } ≡ filled p r c
-filled_from_painted p r c s v old new at_sides at_colour from long_old long_new painted =
-    let P : List Cell → Type 0 = λ cs. IsPainted p.width s v cs new in
-    grid_from_painted (plain 0) p.width p.height s v p.cells new long_old long_new (subst P from painted)
-    ∙ (ap (λ n. grid p.width p.height (λ x y. cond (between n x y) v (cell_at p x y))) at_sides
-    ∙ ap (λ n. grid p.width p.height (λ x y. cond (has r x y) n (cell_at p x y))) at_colour)
+filled_from_painted p r c s v old new at_sides at_colour from long_old long_new drawn =
+    rect_from_painted (plain 0) p r s v old new at_sides from long_old long_new drawn
+    ∙ ap (λ n. grid p.width p.height (λ x y. cond (has r x y) n (cell_at p x y))) at_colour
 
 -- one cell set is the surface with that colour
 pub with_colour_from_set :
@@ -117,24 +127,24 @@ image_at-place r colours x y t =
     let bottom : y < s.bottom = ltb-true y s.bottom upper.1 in
     value_at-place 0 (s.right - s.left) (s.bottom - s.top) colours (x - s.left) (y - s.top) (omega arith) (omega arith)
 
--- cells that are drawn with the colours of an image are the picture with that image
+-- cells that are drawn with the colours of an image are the grid with that image
 pub image_from_drawn :
-    (p : Grid Cell) (r : Rect) (colours : List ℕ) (hidden : Bool) (s : Sides) (old new : List Cell)
-    → s ≡ sides r → old ≡ p.cells → length p.cells ≡ p.width * p.height → length new ≡ p.width * p.height
-    → IsDrawn p.width s (λ x y. cell_of hidden (get_or colours (place_in s x y) 0)) old new
-    → record { width = p.width; height = p.height; cells = new }
-    ≡ grid p.width p.height (λ x y. cond (has r x y) (cell_of hidden (image_at r colours x y)) (cell_at p x y))
-image_from_drawn p r colours hidden s old new at_sides from long_old long_new drawn =
-    let f : Sides → ℕ → ℕ → Cell = λ n x y. cell_of hidden (get_or colours (place_in n x y) 0) in
-    let g : Sides → ℕ → ℕ → Cell = λ n x y. cond (between n x y) (f n x y) (cell_at p x y) in
-    let P : List Cell → Type 0 = λ cs. IsDrawn p.width s (f s) cs new in
-    grid_from_drawn (plain 0) p.width p.height s (f s) p.cells new long_old long_new (subst P from drawn)
-    ∙ (ap (λ n. grid p.width p.height (g n)) at_sides
-    ∙ grid_from_agree p.width p.height (g (sides r))
-    (λ x y. cond (has r x y) (cell_of hidden (image_at r colours x y)) (cell_at p x y))
+    {A : Type 0} (d : A) (of : ℕ → A) (g : Grid A) (r : Rect) (colours : List ℕ) (s : Sides) (old new : List A)
+    → s ≡ sides r → old ≡ g.cells → length g.cells ≡ g.width * g.height → length new ≡ g.width * g.height
+    → IsDrawn g.width s (λ x y. of (get_or colours (place_in s x y) 0)) old new
+    → record { width = g.width; height = g.height; cells = new }
+    ≡ grid g.width g.height (λ x y. cond (has r x y) (of (image_at r colours x y)) (value_at d g x y))
+image_from_drawn {A} d of g r colours s old new at_sides from long_old long_new drawn =
+    let f : Sides → ℕ → ℕ → A = λ n x y. of (get_or colours (place_in n x y) 0) in
+    let h : Sides → ℕ → ℕ → A = λ n x y. cond (between n x y) (f n x y) (value_at d g x y) in
+    let P : List A → Type 0 = λ cs. IsDrawn g.width s (f s) cs new in
+    grid_from_drawn d g.width g.height s (f s) g.cells new long_old long_new (subst P from drawn)
+    ∙ (ap (λ n. grid g.width g.height (h n)) at_sides
+    ∙ grid_from_agree g.width g.height (h (sides r))
+    (λ x y. cond (has r x y) (of (image_at r colours x y)) (value_at d g x y))
     (λ x y across down.
-    cond_same (has r x y) (f (sides r) x y) (cell_of hidden (image_at r colours x y)) (cell_at p x y)
-    (λ t. ap (cell_of hidden) (sym (image_at-place r colours x y t)))))
+    cond_same (has r x y) (f (sides r) x y) (of (image_at r colours x y)) (value_at d g x y)
+    (λ t. ap of (sym (image_at-place r colours x y t)))))
 
 -- a picture that shows all has no hidden cell
 pub any_hidden-shows_all :

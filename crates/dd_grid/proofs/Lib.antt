@@ -1,3 +1,4 @@
 pub mod DrawingLemmas
 pub mod Examples
 pub mod MovingLemmas
+pub mod SeenLemmas

@@ -63,6 +63,10 @@ moved_cells = scrolled (plain 0)
 abbrev pub any_hidden : Grid Cell → Bool
 any_hidden p = list_any (λ c. c.hidden) p.cells
 
+-- the points whose cells are hidden
+abbrev pub hidden_points : Grid Cell → Grid Bool
+hidden_points p = grid p.width p.height (λ x y. (cell_at p x y).hidden)
+
 -- no cell is hidden
 abbrev pub ShowsAll : Grid Cell → Type 0
 ShowsAll p = (x y : ℕ) → (cell_at p x y).hidden ≡ false
@@ -88,6 +92,13 @@ abbrev pub with_colour : Grid ℕ → ℕ → ℕ → ℕ → Grid ℕ
 with_colour s x y c =
     grid s.width s.height (λ at_x at_y. if at_x == x && at_y == y then c else colour_at s at_x at_y)
 
+-- a rectangle of a surface painted in one colour, or with an image
+abbrev pub painted : Grid ℕ → Rect → ℕ → Grid ℕ
+painted s r c = grid s.width s.height (λ x y. if has r x y then c else colour_at s x y)
+
+abbrev pub imaged : Grid ℕ → Rect → List ℕ → Grid ℕ
+imaged s r colours = grid s.width s.height (λ x y. if has r x y then image_at r colours x y else colour_at s x y)
+
 -- what is seen of a picture, copied inside a rectangle
 abbrev pub taken : Grid ℕ → Rect → Grid Cell → Grid ℕ
 taken s r p = grid s.width s.height (λ x y. if has r x y then seen_cell (cell_at p x y) else colour_at s x y)
@@ -95,3 +106,10 @@ taken s r p = grid s.width s.height (λ x y. if has r x y then seen_cell (cell_a
 -- a move of a surface's colours
 abbrev pub moved : Grid ℕ → Move → Grid ℕ
 moved = scrolled 0
+
+-- What is drawn on a picture is seen as the same drawn on what was seen of it; an image that is hidden is black.
+pub record SeenCommutes (p : Grid Cell) : Type 0 where
+  pub fill : (r : Rect) (c : ℕ) → seen (filled p r c) ≡ painted (seen p) r c
+  pub blit : (r : Rect) (colours : List ℕ) → seen (blitted p r colours) ≡ imaged (seen p) r colours
+  pub cover : (r : Rect) (colours : List ℕ) → seen (covered p r colours) ≡ painted (seen p) r 0
+  pub scroll : (m : Move) → seen (moved_cells p m) ≡ moved (seen p) m

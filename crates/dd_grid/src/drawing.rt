@@ -51,6 +51,33 @@ pub(crate) fn write_image(
     }
 }
 
+/// Writes the next of the colours into each place between the sides, row by row; `cells` has rows of
+/// `width` colours.
+pub(crate) fn copy_image(
+    cells: &mut [u32],
+    width: usize,
+    height: usize,
+    sides: Sides,
+    colours: &[u32],
+)
+    requires inside { AreInside sides width height }
+    requires cells { length cells.old ≡ width * height }
+    requires count { length colours.now ≡ (sides.right - sides.left) * (sides.bottom - sides.top) }
+    ensures { (k : ℕ) (d : ℕ) → k < length cells.old → slice_index_or cells.new k d
+        ≡ (if between sides (k % width) (k / width)
+        then slice_index_or colours.now (place_in sides (k % width) (k / width)) 0
+        else slice_index_or cells.old k d) }
+{
+    let size = sides.right - sides.left;
+    for y in sides.top..sides.bottom {
+        let start = y * width;
+        let first = (y - sides.top) * size;
+        cells[start + sides.left..start + sides.right].copy_from_slice(
+            &colours[first..first + size],
+        );
+    }
+}
+
 /// Copies whole cells to a move's destination, what is hidden as what is not; `cells` has rows of
 /// `width` cells.
 pub(crate) fn move_cells(cells: &mut [Pixel], width: usize, height: usize, m: Move)

@@ -10,6 +10,6 @@ mod surface;
 mod tests;
 
 pub use cell::COLOURS;
-pub use laws::seen_is_surface;
+pub use laws::{seen_commutes, seen_is_surface};
 pub use picture::Picture;
 pub use surface::Surface;

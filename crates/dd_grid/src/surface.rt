@@ -2,15 +2,16 @@
 
 ghost use Rattle.std.specs.Prelude.{◌≡◌, ℕ, ◌*◌, ◌/◌, ◌%◌, ◌<◌, length, map, All, IsTrue, IfOk};
 ghost use Rattle.std.specs.Prelude.{slice_index_or, if◌then◌else◌};
-ghost use Rattle.dd_geom.specs.Rect.{IsSize, AreInside, between, is_inside, is_move_inside};
+ghost use Rattle.dd_geom.specs.Rect.{IsSize, AreInside, between, is_inside, is_move_inside, points};
 ghost use Rattle.dd_grid.specs.declared.cell.TheConstants.{COLOURS};
 ghost use Rattle.dd_geom.specs.Grid.{SameSize, row};
 ghost use Rattle.dd_grid.specs.Cell.{seen_cell};
 ghost use Rattle.dd_grid.specs.Drawing.{cell_at};
 
 use crate::cell::Pixel;
+use crate::drawing::copy_image;
 use crate::picture::Picture;
-use dd_geom::{Move, Rect, Sides, scroll, sides_of};
+use dd_geom::{Move, Rect, Sides, paint, scroll, sides_of};
 use std::alloc::{AllocError, Global};
 use std::marker::Model;
 
@@ -66,7 +67,7 @@ fn take_rows(colours: &mut [u32], width: usize, height: usize, sides: Sides, fro
 }
 
 impl Surface {
-    ghost use Rattle.dd_grid.specs.Drawing.{IsSurface, blank, with_colour, taken, moved};
+    ghost use Rattle.dd_grid.specs.Drawing.{IsSurface, blank, with_colour, painted, imaged, taken, moved};
 
     /// A surface of `w` by `h` black points.
     pub fn new(alloc: Global, w: u32, h: u32) -> Result<Surface, AllocError>
@@ -114,6 +115,31 @@ impl Surface {
         ensures size { SameSize self.old self.new }
     {
         self.colours[y as usize * self.width as usize + x as usize] = colour;
+    }
+
+    /// Paints a rectangle in one colour.
+    pub fn fill(&mut self, r: Rect, colour: u32)
+        requires inside { IsTrue (is_inside r self.old.width self.old.height) }
+        requires colour { colour < COLOURS }
+        ensures drawn { self.new ≡ painted self.old r colour }
+        ensures size { SameSize self.old self.new }
+    {
+        let width = self.width as usize;
+        let height = self.height as usize;
+        paint(&mut self.colours, width, height, sides_of(r), colour);
+    }
+
+    /// Draws an image in a rectangle: one colour for each point, row by row.
+    pub fn blit(&mut self, r: Rect, colours: &[u32])
+        requires inside { IsTrue (is_inside r self.old.width self.old.height) }
+        requires colours { All (λ c. c < COLOURS) colours.now }
+        requires count { length colours.now ≡ points r }
+        ensures drawn { self.new ≡ imaged self.old r colours.now }
+        ensures size { SameSize self.old self.new }
+    {
+        let width = self.width as usize;
+        let height = self.height as usize;
+        copy_image(&mut self.colours, width, height, sides_of(r), colours);
     }
 
     /// Copies colours to the move's destination, as if through a copy of them: source and
