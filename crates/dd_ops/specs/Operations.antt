@@ -1,12 +1,12 @@
 -- Which operations fit a surface, and what they draw.
-use Rattle.std.specs.Prelude.{ℕ, Bool, ◌&&◌, ◌==◌, not, nat_lt, List, length, fold, Option, position, IsTrue}
+use Rattle.std.specs.Prelude.{◌≡◌, ℕ, Bool, ◌&&◌, ◌==◌, not, nat_lt, List, length, fold, Option, position, IsTrue}
 use Rattle.std.specs.List.{list_all}
 use Rattle.dd_geom.specs.declared.rect.Rect.{Rect}
 use Rattle.dd_geom.specs.Grid.{Grid}
 use Rattle.dd_geom.specs.Rect.{is_inside, is_move_inside, points}
 use Rattle.dd_grid.specs.declared.cell.TheConstants.{COLOURS}
 use Rattle.dd_grid.specs.Cell.{Cell}
-use Rattle.dd_grid.specs.Drawing.{IsPicture, filled, blitted, covered, moved_cells}
+use Rattle.dd_grid.specs.Drawing.{IsPicture, filled, blitted, covered, moved_cells, seen, painted, imaged, moved}
 use Rattle.dd_ops.specs.declared.operations.Op.{Op}
 use Rattle.dd_ops.specs.declared.operations.Op.TheVariants.{Fill, Blit, Cover, Scroll}
 
@@ -42,6 +42,20 @@ drawn_by p (Scroll mv) = moved_cells p mv
 
 abbrev pub drawn : Grid Cell → List Op → Grid Cell
 drawn p ops = fold drawn_by p ops
+
+-- what they make of a surface of what is seen: an image that is hidden is black
+abbrev pub seen_drawn_by : Grid ℕ → Op → Grid ℕ
+seen_drawn_by s (Fill rect colour) = painted s rect colour
+seen_drawn_by s (Blit rect colours) = imaged s rect colours
+seen_drawn_by s (Cover rect colours) = painted s rect 0
+seen_drawn_by s (Scroll mv) = moved s mv
+
+abbrev pub seen_drawn : Grid ℕ → List Op → Grid ℕ
+seen_drawn s ops = fold seen_drawn_by s ops
+
+-- what is seen of a picture after operations is what they make of what was seen of it
+abbrev pub SeenFollows : Type 0
+SeenFollows = (p : Grid Cell) (ops : List Op) → seen (drawn p ops) ≡ seen_drawn (seen p) ops
 
 -- what operations that fit make of a picture is a picture
 abbrev pub DrawnIsPicture : Type 0

@@ -8,6 +8,6 @@ mod operations;
 mod tests;
 
 pub use dd_grid::COLOURS;
-pub use laws::drawn_is_picture;
+pub use laws::{drawn_is_picture, seen_follows};
 pub use lists::{Colours, MAX_OPS, Ops, OpsFault};
-pub use operations::{Op, apply, fits};
+pub use operations::{Op, apply, apply_seen, fits};

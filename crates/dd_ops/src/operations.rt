@@ -3,11 +3,11 @@
 ghost use Rattle.std.specs.Prelude.{◌≡◌, IsTrue, IfOk};
 ghost use Rattle.dd_geom.specs.Grid.{SameSize};
 ghost use Rattle.dd_ops.specs.Operations.{are_colours as are_all_colours, is_image as is_an_image};
-ghost use Rattle.dd_ops.specs.Operations.{fits as fits_surface, all_fit, drawn_by, drawn};
+ghost use Rattle.dd_ops.specs.Operations.{fits as fits_surface, all_fit, drawn_by, drawn, seen_drawn_by, seen_drawn};
 
 use crate::lists::{Colours, Ops};
 use dd_geom::{Move, Rect, move_inside, point_count, rect_inside};
-use dd_grid::{COLOURS, Picture};
+use dd_grid::{COLOURS, Picture, Surface};
 use std::alloc::AllocError;
 
 /// One drawing operation.
@@ -105,4 +105,39 @@ pub fn apply(p: &mut Picture, ops: &Ops)
     ensures size { SameSize p.old p.new }
 {
     draw_all(p, ops.as_slice());
+}
+
+/// Draws on a surface what is seen of one operation.
+fn draw_seen(s: &mut Surface, op: &Op)
+    requires { IsTrue (fits_surface s.old.width s.old.height op.now) }
+    ensures drawn { s.new ≡ seen_drawn_by s.old op.now }
+    ensures size { SameSize s.old s.new }
+{
+    match op {
+        Op::Fill { rect, colour } => s.fill(*rect, *colour),
+        Op::Blit { rect, colours } => s.blit(*rect, colours.as_slice()),
+        Op::Cover { rect, .. } => s.fill(*rect, 0),
+        Op::Scroll { mv } => s.scroll(*mv),
+    }
+}
+
+/// Draws on a surface what is seen of operations, in order.
+fn draw_all_seen(s: &mut Surface, ops: &[Op])
+    requires { IsTrue (all_fit s.old.width s.old.height ops.now) }
+    ensures drawn { s.new ≡ seen_drawn s.old ops.now }
+    ensures size { SameSize s.old s.new }
+{
+    for op in ops {
+        draw_seen(s, op);
+    }
+}
+
+/// Draws on a surface what is seen of the operations, in order: an image that is hidden is black.
+/// Each has to fit the surface. It takes no memory.
+pub fn apply_seen(s: &mut Surface, ops: &Ops)
+    requires { IsTrue (all_fit s.old.width s.old.height ops.now) }
+    ensures drawn { s.new ≡ seen_drawn s.old ops.now }
+    ensures size { SameSize s.old s.new }
+{
+    draw_all_seen(s, ops.as_slice());
 }

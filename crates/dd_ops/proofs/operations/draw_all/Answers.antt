@@ -1,5 +1,6 @@
 use Rattle.std.proofs.Common.{◌∙◌}
-use Rattle.dd_ops.proofs.Fitting.{fits_at, drawn_more}
+use Rattle.dd_ops.specs.Operations.{drawn_by}
+use Rattle.dd_ops.proofs.Fitting.{fits_at, fold_more_by}
 use Rattle.dd_ops.proofs.operations.draw_all.Goals as goal
 
 pub draw-requires : goal.draw-requires
@@ -11,7 +12,7 @@ draw-requires c =
 pub loop-op-preserved : goal.loop-op-preserved
 loop-op-preserved c = (
   c.draw.ensures.drawn
-      ∙ drawn_more c.args.p.now c.loop-op.p c.args.ops.now c.loop-op.op-index c.op-item.result c.loop-op-test.true
+      ∙ fold_more_by drawn_by c.args.p.now c.loop-op.p c.args.ops.now c.loop-op.op-index c.op-item.result c.loop-op-test.true
       c.op-item.is c.loop-op.invariant.0,
   record {
     width = c.draw.ensures.size.width ∙ c.loop-op.invariant.1.width;
