@@ -1,13 +1,17 @@
 -- The grids that a plane's cells are: of no point, with a rectangle painted, and without one.
-use Rattle.std.proofs.Common.{◌≡◌, ℕ, ◌*◌, List, Bool, true, false, not, ◌&&◌, ◌||◌, cond, length, replicate, get_or, refl, ap, ◌∙◌}
+use Rattle.std.proofs.Common.{◌≡◌, ℕ, ◌*◌, List, Bool, true, false, not, ◌&&◌, ◌||◌, ◌↔◌, IsTrue, cond, length, replicate, get_or, refl, sym, ap, ◌∙◌, arith, inl, inr}
+use Rattle.std.specs.List.{list_any}
+use Rattle.std.proofs.lemmas.Bool.{cases_Bool, both_ways}
 use Rattle.std.proofs.lemmas.List.{length-replicate, get_or-replicate}
+use Rattle.std.proofs.lemmas.List.Elements.{All-from_get_or}
+use Rattle.std.proofs.lemmas.List.Folds.{list_any_at, list_any_none}
 use Rattle.dd_geom.specs.declared.rect.Rect.{Rect}
 use Rattle.dd_geom.specs.declared.rect.Sides.{Sides}
 use Rattle.dd_geom.specs.Rect.{has, sides, between}
 use Rattle.dd_geom.specs.Grid.{Grid, value_at}
-use Rattle.dd_geom.proofs.GridLemmas.{grid_from_places, grid_from_agree}
+use Rattle.dd_geom.proofs.GridLemmas.{length-cells, get_or-cells, grid_from_places, grid_from_agree}
 use Rattle.dd_geom.proofs.PaintLemmas.{IsPainted, grid_from_painted}
-use Rattle.dd_bits.specs.Area.{is_in, nowhere, with_rect, without_rect}
+use Rattle.dd_bits.specs.Area.{IsNowhere, is_in, nowhere, with_rect, without_rect}
 
 abbrev plane : ℕ → ℕ → List Bool → Grid Bool
 plane w h cells = record { width = w; height = h; cells = cells }
@@ -49,3 +53,30 @@ cleared_rect w h r s old new g e is long_old long_new painted =
     ap (λ t. cond (between t x y) false (value_at false (plane w h old) x y)) e
     ∙ and_cond (between (sides r) x y) (value_at false (plane w h old) x y))
     ∙ ap (λ v. without_rect v r) is
+
+-- no cell is marked exactly where no point is in the set
+none_marked : (g : Grid Bool) → length g.cells ≡ g.width * g.height → list_any (λ b. b) g.cells ≡ false → IsNowhere g
+none_marked g long none =
+    grid_from_places false g.width g.height (λ x y. false) g.cells long (λ k l.
+    elim (cases_Bool (get_or g.cells k false)) [
+      | inl t ↦ absurd (both_ways (list_any (λ b. b) g.cells) none (list_any_at (λ b. b) g.cells k false (omega arith) t))
+      | inr e ↦ e
+    ])
+
+unmarked : (w h : ℕ) → list_any (λ b. b) (nowhere w h).cells ≡ false
+unmarked w h =
+    list_any_none (λ b. b) (nowhere w h).cells
+    (All-from_get_or (λ b. b ≡ false) (nowhere w h).cells false (λ k l.
+    get_or-cells w h (λ x y. false) k false (omega (arith, length-cells w h (λ x y. false)))))
+
+not_true_from : (b : Bool) → IsTrue (not b) → b ≡ false
+not_true_from true e = sym e
+not_true_from false e = refl
+
+pub blank_test :
+    (g : Grid Bool) (some : Bool) → length g.cells ≡ g.width * g.height → some ≡ list_any (λ b. b) g.cells
+    → IsTrue (not some) ↔ IsNowhere g
+blank_test g some long is = (
+  λ t. none_marked g long (sym is ∙ not_true_from some t),
+  λ e. ap not (is ∙ ap (λ (v : Grid Bool). list_any (λ b. b) v.cells) e ∙ unmarked g.width g.height),
+)

@@ -13,6 +13,10 @@ is_in g x y = value_at false g x y
 abbrev pub nowhere : ℕ → ℕ → Grid Bool
 nowhere w h = grid w h (λ x y. false)
 
+-- no point is in the set
+abbrev pub IsNowhere : Grid Bool → Type 0
+IsNowhere g = g ≡ nowhere g.width g.height
+
 -- the set and the points of a rectangle
 abbrev pub with_rect : Grid Bool → Rect → Grid Bool
 with_rect g r = grid g.width g.height (λ x y. has r x y || is_in g x y)

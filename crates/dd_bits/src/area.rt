@@ -32,10 +32,10 @@
 //! another way. Of two equal sets one may be kept otherwise than the other. Bands that are kept may
 //! equal their neighbours: the list merges them. Which calls take memory is for each kind to say.
 
-ghost use Rattle.std.specs.Prelude.{◌≡◌, ◌≤◌, Bool, IsTrue, IfOk, OnOk, OnErr};
+ghost use Rattle.std.specs.Prelude.{◌≡◌, ◌≤◌, ◌↔◌, Bool, IsTrue, IfOk, OnOk, OnErr};
 ghost use Rattle.dd_geom.specs.Grid.{Grid, SameSize};
 ghost use Rattle.dd_geom.specs.Rect.{IsSize, is_inside, is_move_inside};
-ghost use Rattle.dd_bits.specs.Area.{IsArea, is_in, nowhere, with_rect, without_rect, moved_over};
+ghost use Rattle.dd_bits.specs.Area.{IsArea, IsNowhere, is_in, nowhere, with_rect, without_rect, moved_over};
 ghost use Rattle.dd_bits.specs.CanonicalList.{canonical_list};
 ghost use Rattle.dd_bits.specs.Tiles.{tiles};
 
@@ -50,6 +50,10 @@ pub trait Area: Sized + Drop {
     fn empty(alloc: Global, w: u32, h: u32) -> Result<Self, AllocError>
         requires { IsSize w h }
         ensures { IfOk result (λ a. points a ≡ nowhere w h) };
+
+    /// An equal set, on memory of its own.
+    fn copy(&self) -> Result<Self, AllocError>
+        ensures { IfOk result (λ a. points a ≡ points self.now) };
 
     /// Adds each point of the rectangle.
     fn add(&mut self, r: Rect) -> Result<(), AllocError>
@@ -84,6 +88,11 @@ pub trait Area: Sized + Drop {
     /// Whether the point is in the set. No point outside the surface is.
     fn has(&self, x: u32, y: u32) -> bool
         ensures { result ≡ is_in (points self.now) x y };
+
+    /// Whether no point is in the set.
+    fn is_empty(&self) -> bool
+        ensures empty { IsTrue result ↔ IsNowhere (points self.now) }
+        ensures area { IsArea (points self.now) };
 
     /// The set as rectangles: for each band of equal rows one for each maximal run of columns, sorted
     /// by top, then left. No other list of rectangles tells this set in this form.

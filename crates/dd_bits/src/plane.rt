@@ -5,7 +5,7 @@ ghost use Rattle.dd_geom.specs.Grid.{SameSize, row};
 
 use crate::area::Area;
 use crate::runs::push_runs;
-use crate::tiling::round_to_tiles;
+use crate::tiling::{has_marked, round_to_tiles};
 use dd_geom::{Move, Rect, Rects, paint, scroll, sides_of};
 use std::alloc::{AllocError, Global};
 use std::marker::Model;
@@ -81,6 +81,16 @@ impl Area for Plane {
         })
     }
 
+    /// Takes the copy's memory from the plane's own allocator.
+    fn copy(&self) -> Result<Plane, AllocError> {
+        let cells = Vec::from_slice(*self.cells.allocator(), self.cells.as_slice())?;
+        Ok(Plane {
+            width: self.width,
+            height: self.height,
+            cells,
+        })
+    }
+
     /// Takes no memory.
     fn add(&mut self, r: Rect) -> Result<(), AllocError>
         requires { IsTrue (is_inside r self.old.width self.old.height) }
@@ -143,6 +153,10 @@ impl Area for Plane {
         x < self.width
             && y < self.height
             && self.cells[y as usize * self.width as usize + x as usize]
+    }
+
+    fn is_empty(&self) -> bool {
+        !has_marked(&self.cells)
     }
 
     /// Takes the list's memory from the plane's own allocator.

@@ -10,7 +10,7 @@ use dd_geom::{Sides, paint};
 
 /// Whether some cell of a run is marked. It looks at each cell without a branch, so that a blank run
 /// costs little.
-fn has_marked(run: &[bool]) -> bool
+pub(crate) fn has_marked(run: &[bool]) -> bool
     ensures { result ≡ list_any (λ b. b) run.now }
 {
     let mut some = false;

@@ -1,5 +1,5 @@
 -- The list of a set that is kept as bands.
-use Rattle.std.proofs.Common.{◌≡◌, ◌≢◌, ℕ, ◌<◌, ◌≤◌, List, ◌++◌, Bool, true, false, map, length, sym, ap, ◌∙◌, refl, subst, arith, inl, inr}
+use Rattle.std.proofs.Common.{◌≡◌, ◌≢◌, ℕ, ◌<◌, ◌≤◌, List, [], ◌++◌, ◌↔◌, Bool, true, false, map, length, sym, ap, ◌∙◌, refl, subst, arith, inl, inr}
 use Rattle.std.proofs.Math.Path.{fun_ext}
 use Rattle.std.specs.Prelude.{All}
 use Rattle.std.proofs.lemmas.Bool.{cases_lt}
@@ -8,18 +8,19 @@ use Rattle.std.proofs.lemmas.List.FromFn.{length-map-range_with_len}
 use Rattle.dd_geom.specs.declared.rect.Rect.{Rect}
 use Rattle.dd_geom.specs.declared.rect.TheConstants.{MAX_SIDE}
 use Rattle.dd_geom.specs.Grid.{Grid, grid, row}
-use Rattle.dd_geom.proofs.GridLemmas.{length-cells, value_at-grid, value_at-right, row-grid}
-use Rattle.dd_bits.specs.Area.{is_in, IsArea}
+use Rattle.dd_geom.proofs.GridLemmas.{length-cells, value_at-grid, value_at-right, value_at-below, row-grid}
+use Rattle.dd_bits.specs.Area.{is_in, IsArea, IsNowhere, nowhere}
 use Rattle.dd_bits.specs.CanonicalList.{row_runs, same_rows, band_end, is_marked}
 use Rattle.dd_bits.proofs.RowRuns.{not_true, row_runs-row}
 use Rattle.dd_bits.proofs.Bands.{same_rows-at, same_rows-from, band_end-found, IsListed, IsListed-more}
 use Rattle.dd_region.specs.declared.run.Run.{Run}
 use Rattle.dd_region.specs.declared.rows.Rows.{Rows}
 use Rattle.dd_region.specs.Runs.{in_runs, IsRow}
-use Rattle.dd_region.specs.Rows.{row_at, has_point}
+use Rattle.dd_region.specs.Rows.{row_at, has_point, AreBlank}
 use Rattle.dd_region.specs.Kept.{AreKept}
 use Rattle.dd_region.specs.Listing.{run_rect, IsSameTo}
 use Rattle.dd_region.proofs.BandLemmas.{IsRow-at}
+use Rattle.dd_region.proofs.KeptLemmas.{empty_grid}
 use Rattle.dd_region.proofs.ListLemmas.{ends_within, runs_of_row, rows_tell}
 
 -- rows that keep a set
@@ -110,3 +111,33 @@ ends_short g s y runs of l e =
     subst (All (λ r. r.right ≤ MAX_SIDE)) (sym e)
     (All-weaker (λ (r : Run). r.right ≤ g.width) (λ (r : Run). r.right ≤ MAX_SIDE)
     (λ r a. omega (arith, a, of.kept.size.width)) (row_at s y) (within_is g s y of l))
+
+-- the empty set is kept as rows that have no run
+is_in_nowhere : (w h x y : ℕ) → is_in (nowhere w h) x y ≡ false
+is_in_nowhere w h x y =
+    elim (cases_lt x w) [
+      | inl a ↦ elim (cases_lt y h) [
+        | inl b ↦ value_at-grid false w h (λ x y. false) x y a b
+        | inr b ↦ value_at-below false (nowhere w h) x y b
+      ]
+      | inr a ↦ value_at-right false (nowhere w h) x y a
+    ]
+
+is_in-nowhere : (g : Grid Bool) (x y : ℕ) → IsNowhere g → is_in g x y ≡ false
+is_in-nowhere g x y none =
+    ap (λ v. is_in v x y) none ∙ is_in_nowhere g.width g.height x y
+
+blank_row : (g : Grid Bool) (s : Rows) (y : ℕ) → AreRowsOf g s → IsNowhere g → y < g.height → row_at s y ≡ []
+blank_row g s y of none l =
+    rows_tell (row_at s y) [] g.width (row_is g s y of)
+    (record { some = λ k d a. absurd (omega arith); apart = λ i j d a b. absurd (omega arith) })
+    (within_is g s y of l)
+    (λ k d a. absurd (omega arith))
+    (λ x. sym (is_in-point g s x y of l) ∙ is_in-nowhere g x y none)
+
+pub blank_test : (g : Grid Bool) (s : Rows) → AreRowsOf g s → AreBlank s ↔ IsNowhere g
+blank_test g s of = (
+  λ blank. sym of.points
+      ∙ empty_grid g.width g.height s (λ y l. blank y (omega (arith, of.kept.deep))),
+  λ none y l. blank_row g s y of none (omega (arith, of.kept.deep)),
+)

@@ -39,6 +39,10 @@ pub record IsBand (runs : List Run) (b : Band) : Type 0 where
 abbrev pub AreRows : Rows → Type 0
 AreRows s = All (IsBand s.runs.items) s.bands.items
 
+-- no row has a run
+abbrev pub AreBlank : Rows → Type 0
+AreBlank s = (y : ℕ) → y < depth s → row_at s y ≡ []
+
 -- none of the first n bands ends below row y
 abbrev pub ArePassed : Rows → ℕ → ℕ → Type 0
 ArePassed s n y = AllWithin (λ b. b.bottom ≤ y) s.bands.items 0 n

@@ -99,6 +99,20 @@ impl Area for Bands {
         })
     }
 
+    /// Takes the copy's memory from the area's own allocator: that of its bands and their runs.
+    fn copy(&self) -> Result<Bands, AllocError> {
+        let alloc = *self.row.allocator();
+        let rows = self.rows.copy()?;
+        Ok(Bands {
+            width: self.width,
+            height: self.height,
+            rows,
+            spare: Rows::new(alloc),
+            row: Vec::new(alloc),
+            spare_row: Vec::new(alloc),
+        })
+    }
+
     fn add(&mut self, r: Rect) -> Result<(), AllocError> {
         self.write(Patch {
             sides: sides_of(r),
@@ -143,6 +157,10 @@ impl Area for Bands {
         }
         let row = self.rows.at(y as usize, 0);
         x < self.width && has_column(row.runs, x as usize)
+    }
+
+    fn is_empty(&self) -> bool {
+        self.rows.are_blank(self.height as usize)
     }
 
     /// Takes the list's memory from the area's own allocator.

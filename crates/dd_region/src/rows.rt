@@ -28,11 +28,11 @@ pub struct Row<'a> {
 }
 
 impl Rows {
-    ghost use Rattle.std.specs.Prelude.{◌≡◌, ℕ, ◌<◌, ◌≤◌, length, slice_index_or, OnOk};
+    ghost use Rattle.std.specs.Prelude.{◌≡◌, ℕ, ◌<◌, ◌≤◌, ◌↔◌, length, slice_index_or, IsTrue, IfOk, OnOk};
     ghost use Rattle.std.specs.Bool.{OnTrue};
     ghost use Rattle.dd_region.specs.declared.rows.Band.{Band};
     ghost use Rattle.dd_region.specs.Runs.{IsRow};
-    ghost use Rattle.dd_region.specs.Rows.{row_at, depth, last_runs, AreRows, ArePassed, HasBandMore};
+    ghost use Rattle.dd_region.specs.Rows.{row_at, depth, last_runs, AreRows, AreBlank, ArePassed, HasBandMore};
 
     /// No rows.
     pub fn new(alloc: Global) -> Rows
@@ -43,6 +43,18 @@ impl Rows {
             runs: Vec::new(alloc),
             bands: Vec::new(alloc),
         }
+    }
+
+    /// The same bands and runs, on memory of their own.
+    pub fn copy(&self) -> Result<Rows, AllocError>
+        ensures runs { IfOk result (λ rows. rows.runs.items ≡ self.now.runs.items) }
+        ensures bands { IfOk result (λ rows. rows.bands.items ≡ self.now.bands.items) }
+    {
+        let alloc = *self.runs.allocator();
+        Ok(Rows {
+            runs: Vec::from_slice(alloc, self.runs.as_slice())?,
+            bands: Vec::from_slice(alloc, self.bands.as_slice())?,
+        })
     }
 
     /// Takes all rows out, and keeps the memory.
@@ -88,6 +100,25 @@ impl Rows {
             band,
             bottom: rows.bottom,
         }
+    }
+
+    /// Whether no row has a run.
+    pub fn are_blank(&self, height: usize) -> bool
+        requires rows { AreRows self.now }
+        requires height { height ≡ depth self.now }
+        ensures { IsTrue result ↔ AreBlank self.now }
+    {
+        let mut y = 0;
+        let mut band = 0;
+        while y < height {
+            let row = self.at(y, band);
+            if !row.runs.is_empty() {
+                return false;
+            }
+            band = row.band;
+            y = row.bottom;
+        }
+        true
     }
 
     /// Whether the last band has these runs.
