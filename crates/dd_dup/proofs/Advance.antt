@@ -1,4 +1,4 @@
--- What is moved and copied is the surface of the picture brought forward.
+-- What a frame tells rebuilds what is seen of the picture brought forward.
 use Rattle.std.proofs.Common.{◌≡◌, ℕ, ◌+◌, ◌*◌, Bool, true, false, ◌||◌, List, [], ◌∷◌, length, refl, sym, ap, ◌∙◌, subst, if◌then◌else◌, cond, arith, IsTrue}
 use Rattle.std.specs.List.{list_any, list_all, count_by, All}
 use Rattle.std.proofs.lemmas.Bool.{and_parts}
@@ -25,9 +25,7 @@ use Rattle.dd_log.specs.declared.events.Entry.{Entry}
 use Rattle.dd_log.specs.History.{entries_fit}
 use Rattle.dd_log.specs.Picture.{presents, shown}
 use Rattle.dd_dup.specs.News.{moves_of, dirt_of}
-use Rattle.dd_dup.specs.Walk.{copied_each}
 use Rattle.dd_dup.proofs.Entries.{presents-fit, shown-presents}
-use Rattle.dd_dup.proofs.Copies.{copied_each-copied}
 
 -- one of the rectangles has a point exactly where the set does
 any_step : (here b later : Bool) (n : ℕ) → ((c : Bool) → n ≡ (if c then 1 else 0) → later ≡ c)
@@ -47,39 +45,6 @@ any_from_count p (x ∷ xs) b e =
 
 any_has-list : (g : Grid Bool) (x y : ℕ) → any_has (canonical_list g) x y ≡ is_in g x y
 any_has-list g x y = any_from_count (λ r. has r x y) (canonical_list g) (is_in g x y) (count_by-canonical_list g x y)
-
--- each dirty rectangle lies inside
-pub All-dirt_of : (w h : ℕ) (es : List Entry) → All (λ r. IsTrue (is_inside r w h)) (dirt_of w h es)
-unfolding dirt_of
-All-dirt_of w h es =
-    let g : Grid Bool = dirt w h (presents es) in
-    subst (λ (n : ℕ). All (λ r. IsTrue (is_inside r n h)) (canonical_list g)) (width-dirt w h (presents es))
-    (subst (λ (n : ℕ). All (λ r. IsTrue (is_inside r g.width n)) (canonical_list g)) (height-dirt w h (presents es))
-    (All-canonical_list g))
-
--- each move lies inside
-All-moves_in : (w h : ℕ) (es : List Effect) → list_all (effect_fits w h) es ≡ true
-    → All (λ m. IsTrue (is_move_inside m w h)) (moves_in es)
-All-moves_in w h [] t = All-nil (λ m. IsTrue (is_move_inside m w h))
-All-moves_in w h (over r ∷ es) t = All-moves_in w h es t
-All-moves_in w h (shifted m ∷ es) t =
-    let both = and_parts (is_move_inside m w h) (list_all (effect_fits w h) es) t in
-    All-cons (λ n. IsTrue (is_move_inside n w h)) m (moves_in es) both.0 (All-moves_in w h es both.1)
-
-pub All-moves_of : (w h : ℕ) (es : List Entry) → entries_fit w h es ≡ true
-    → All (λ m. IsTrue (is_move_inside m w h)) (moves_of es)
-unfolding moves
-All-moves_of w h es fit =
-    All-moves_in w h (all_effects (presents es)) (each-fit w h 0 (presents es) (presents-fit w h es fit))
-
--- a surface that was moved has its size, and a colour for each point
-whole-moved : (ms : List Move) (s : Grid ℕ) → length s.cells ≡ s.width * s.height
-    → length (all_moved s ms).cells ≡ (all_moved s ms).width * (all_moved s ms).height
-whole-moved [] s whole = whole
-whole-moved (m ∷ ms) s whole =
-    whole-moved ms (moved s m)
-    (length-cells s.width s.height
-    (λ x y. if has m.dest x y then value_at 0 s (source_x m x) (source_y m y) else value_at 0 s x y))
 
 pub width-shown : (p : Grid Cell) (es : List Entry) → (shown p es).width ≡ p.width
 width-shown p es = ap (λ (q : Grid Cell). q.width) (shown-presents es p) ∙ width-presents (presents es) p
@@ -103,23 +68,6 @@ rebuild-news p es fit =
     let fits = presents-fit p.width p.height es fit in
     subst (λ (q : Grid Cell). rebuild (seen p) (moves ps) rects (seen q) ≡ seen q) (sym (shown-presents es p))
     (rebuilds p ps rects fits (has_drawn p.width p.height ps fits))
-
--- the same, rectangle by rectangle
-pub copied_each-news :
-    (p q : Grid Cell) (s t : Grid ℕ) (ms : List Move) (rects : List Rect) (es : List Entry)
-    → entries_fit p.width p.height es ≡ true → s ≡ seen p → t ≡ all_moved s ms → q ≡ shown p es → ms ≡ moves_of es
-    → rects ≡ dirt_of p.width p.height es → copied_each t rects q ≡ seen (shown p es)
-copied_each-news p q s t ms rects es fit s_is t_is q_is ms_are rects_are =
-    let u : Grid ℕ = all_moved (seen p) (moves_of es) in
-    let t_is_u : t ≡ u = t_is ∙ (ap (λ v. all_moved v ms) s_is ∙ ap (all_moved (seen p)) ms_are) in
-    ap (λ v. copied_each v rects q) t_is_u
-    ∙ (ap (copied_each u rects) q_is
-    ∙ (ap (λ rs. copied_each u rs (shown p es)) rects_are
-    ∙ (copied_each-copied (dirt_of p.width p.height es) u (shown p es)
-    (whole-moved (moves_of es) (seen p) (length-cells p.width p.height (λ x y. seen_cell (cell_at p x y))))
-    (width-shown p es ∙ sym (width-moved (moves_of es) (seen p)))
-    (height-shown p es ∙ sym (height-moved (moves_of es) (seen p)))
-    ∙ rebuild-news p es fit)))
 
 -- a point of a dirty rectangle is where an operation drew
 pub reached-news :

@@ -1,5 +1,5 @@
 -- Entries one after another: what one more adds to the presents, the picture and what is gathered.
-use Rattle.std.proofs.Common.{◌≡◌, ℕ, ◌+◌, ◌<◌, ◌≤◌, true, List, [], ◌∷◌, ◌++◌, length, take, drop, get_or, Option, Some, None, refl, sym, ap, ◌∙◌, append-nil, arith, length-append, if◌then◌else◌}
+use Rattle.std.proofs.Common.{◌≡◌, ℕ, ◌+◌, ◌<◌, ◌≤◌, Bool, true, List, [], ◌∷◌, ◌++◌, length, take, drop, get_or, Option, Some, None, refl, sym, ap, ◌∙◌, append-nil, arith, length-append, if◌then◌else◌}
 use Rattle.std.specs.Prelude.{is_some, option_map, IsSome}
 use Rattle.std.specs.List.{fold, cons_option}
 use Rattle.std.proofs.lemmas.Bool.{and_parts, and_from}
@@ -175,26 +175,27 @@ few_frames w h place k n es so_far k_in is =
     )
 
 -- as news
-news_made : (w h place last : ℕ) (es : List Entry) (i : Interval) → last ≡ last_present 0 place es
-    → i ≡ interval w h (presents es)
-    → news_from (record { acc = i; last = last }) ≡ news_of w h place es
+news_made : (w h place last : ℕ) (hidden : Grid Bool) (es : List Entry) (i : Interval)
+    → last ≡ last_present 0 place es → i ≡ interval w h (presents es)
+    → news_from hidden (record { acc = i; last = last }) ≡ news_of w h place hidden es
 unfolding news_of dirt_of
-news_made w h place last es i last_is is =
-    ap (λ (j : Interval). news_from (record { acc = j; last = last })) is
-    ∙ ap (λ n. news_from (record { acc = interval w h (presents es); last = n })) last_is
+news_made w h place last hidden es i last_is is =
+    ap (λ (j : Interval). news_from hidden (record { acc = j; last = last })) is
+    ∙ ap (λ n. news_from hidden (record { acc = interval w h (presents es); last = n })) last_is
 
-made_where : (w h place : ℕ) (es : List Entry) (ps : List (List Op)) → presents es ≡ ps
-    → option_map news_from (gathered_of w h ps (last_present 0 place es)) ≡ where_any ps (news_of w h place es)
-made_where w h place es [] is = refl
-made_where w h place es (p ∷ ps) is =
+made_where : (w h place : ℕ) (hidden : Grid Bool) (es : List Entry) (ps : List (List Op)) → presents es ≡ ps
+    → option_map (news_from hidden) (gathered_of w h ps (last_present 0 place es))
+    ≡ where_any ps (news_of w h place hidden es)
+made_where w h place hidden es [] is = refl
+made_where w h place hidden es (p ∷ ps) is =
     ap (λ (n : News). Some n)
-    (news_made w h place (last_present 0 place es) es (fold with_present (nothing w h) (p ∷ ps)) refl
+    (news_made w h place (last_present 0 place es) hidden es (fold with_present (nothing w h) (p ∷ ps)) refl
     (composes w h (p ∷ ps) ∙ ap (interval w h) (sym is)))
 
-pub gathered_news : (w h place : ℕ) (es : List Entry)
-    → option_map news_from (gathered w h place es) ≡ where_any (presents es) (news_of w h place es)
+pub gathered_news : (w h place : ℕ) (hidden : Grid Bool) (es : List Entry)
+    → option_map (news_from hidden) (gathered w h place es) ≡ where_any (presents es) (news_of w h place hidden es)
 unfolding gathered
-gathered_news w h place es = made_where w h place es (presents es) refl
+gathered_news w h place hidden es = made_where w h place hidden es (presents es) refl
 
 -- the presents alone are drawn
 drawn_one : (p : Grid Cell) (o : Option (List Op)) (ps : List (List Op))

@@ -1,13 +1,14 @@
 -- The frame that is made, and lists that begin with one that a duplicator stands on.
-use Rattle.std.proofs.Common.{◌≡◌, ℕ, zero, suc, ◌<◌, ◌≤◌, Bool, true, false, List, [], ◌∷◌, length, take, drop, Option, Some, None, refl, sym, ap, ◌∙◌, subst, arith, if◌then◌else◌}
+use Rattle.std.proofs.Common.{◌≡◌, ℕ, zero, suc, ◌+◌, ◌-◌, ◌*◌, ◌<◌, ◌≤◌, Bool, true, false, List, [], ◌∷◌, length, take, drop, Option, Some, None, refl, sym, ap, ◌∙◌, subst, arith, if◌then◌else◌}
 use Rattle.std.specs.Prelude.{slice_get}
 use Rattle.std.proofs.lemmas.List.Sums.{fold-append}
 use Rattle.std.proofs.lemmas.List.{take-append-drop, take_all, take-take}
 use Rattle.std.specs.Prelude.{Ok, Err, is_some, option_map, unwrap_or}
 use Rattle.std.specs.Option.{ok_or}
 use Rattle.dd_ops.specs.declared.operations.Op.{Op}
-use Rattle.dd_geom.proofs.GridLemmas.{grid_from_agree, value_at-grid}
-use Rattle.dd_grid.specs.Cell.{plain, seen_cell}
+use Rattle.dd_geom.proofs.GridLemmas.{grid_from_agree, value_at-grid, length-cells}
+use Rattle.dd_geom.specs.Rect.{has, source_x, source_y}
+use Rattle.dd_grid.specs.Cell.{plain, covered_cell, seen_cell}
 use Rattle.dd_grid.specs.Drawing.{blank}
 use Rattle.dd_modes.specs.declared.modes.Mode.{Mode}
 use Rattle.dd_modes.specs.Modes.{first_mode}
@@ -15,13 +16,16 @@ use Rattle.dd_log.specs.declared.events.Spec.{Spec}
 use Rattle.dd_log.specs.declared.answers.DupRefusal.TheVariants.{InvalidCall, WaitTimeout}
 use Rattle.dd_geom.specs.Grid.{Grid}
 use Rattle.dd_grid.specs.Cell.{Cell}
-use Rattle.dd_grid.specs.Drawing.{black, seen, any_hidden}
+use Rattle.dd_grid.specs.Drawing.{black, seen, any_hidden, hidden_points, cell_at, image_at}
+use Rattle.dd_bits.specs.Area.{nowhere}
+use Rattle.dd_ops.specs.declared.operations.Op.TheVariants.{Fill, Blit, Cover, Scroll}
+use Rattle.dd_ops.specs.Operations.{drawn_by, drawn}
 use Rattle.dd_acc.specs.Effects.{is_coalesced}
 use Rattle.dd_log.specs.declared.events.Entry.{Entry}
-use Rattle.dd_log.specs.History.{History, Begins, first_entries, desk_mode, entries_fit, is_opening, legal}
+use Rattle.dd_log.specs.History.{History, Begins, first_entries, desk_mode, entries_fit, is_opening, legal, present_of}
 use Rattle.dd_log.proofs.Legal.{legal-fit, entries_fit-drop}
 use Rattle.dd_acc.specs.Rebuild.{any_has, rebuild}
-use Rattle.dd_log.specs.Picture.{picture, view, shown, presents}
+use Rattle.dd_log.specs.Picture.{picture, view, shown, shown_after, drawn_if, presents}
 use Rattle.dd_dup.specs.declared.frame.Frame.{Frame}
 use Rattle.dd_dup.specs.declared.frame.News.{News}
 use Rattle.dd_dup.specs.News.{frame, frame_from, news_of, news_since, moves_of, dirt_of, news, where_any}
@@ -30,18 +34,18 @@ use Rattle.dd_dup.specs.Duplicator.{Duplicator, holding, HeldRebuilds, IsExactSi
 use Rattle.dd_dup.specs.Stands.{Stands, StandsOnceOpened}
 use Rattle.dd_dup.proofs.Advance.{width-shown, height-shown, rebuild-news, reached-news, exact-news}
 
-pub news-coalesced : (w h place : ℕ) (es : List Entry)
-    → (news_of w h place es).coalesced ≡ is_coalesced w h (presents es)
+pub news-coalesced : (w h place : ℕ) (hidden : Grid Bool) (es : List Entry)
+    → (news_of w h place hidden es).coalesced ≡ is_coalesced w h (presents es)
 unfolding news_of
-news-coalesced w h place es = refl
+news-coalesced w h place hidden es = refl
 
-pub news-moves : (w h place : ℕ) (es : List Entry) → (news_of w h place es).moves ≡ moves_of es
+pub news-moves : (w h place : ℕ) (hidden : Grid Bool) (es : List Entry) → (news_of w h place hidden es).moves ≡ moves_of es
 unfolding news_of
-news-moves w h place es = refl
+news-moves w h place hidden es = refl
 
-pub news-dirt : (w h place : ℕ) (es : List Entry) → (news_of w h place es).dirt ≡ dirt_of w h es
+pub news-dirt : (w h place : ℕ) (hidden : Grid Bool) (es : List Entry) → (news_of w h place hidden es).dirt ≡ dirt_of w h es
 unfolding news_of
-news-dirt w h place es = refl
+news-dirt w h place hidden es = refl
 
 -- the desk's picture has the mode's size
 pub width-picture : (h : History) → (picture h).width ≡ (desk_mode h).width
@@ -101,8 +105,9 @@ stands_later d h later stands begins =
           ∙ stands.opened;
       marked = omega arith;
       mode = stands.mode ∙ ap (λ (s : Spec). first_mode s.modes) (sym begins.spec);
-      picture = stands.picture ∙ ap picture (sym same);
+      hidden = stands.hidden ∙ ap (λ (e : History). hidden_points (picture e)) (sym same);
       surface = stands.surface ∙ ap view (sym same);
+      folded = stands.folded;
     }
 
 -- a fresh duplicator's surface is what is seen of a black picture
@@ -115,28 +120,37 @@ black_at_first : (h : History) → picture (first_entries 0 h) ≡ black (desk_m
 unfolding picture
 black_at_first h = refl
 
+-- nor has it a hidden point
+hidden-black : (w h : ℕ) → nowhere w h ≡ hidden_points (black w h)
+hidden-black w h =
+    grid_from_agree w h _ _
+    (λ x y across down. sym (ap (λ (c : Cell). c.hidden)
+    (value_at-grid (plain 0) w h (λ a b. plain 0) x y across down)))
+
 -- a duplicator that was opened at a place, and has seen nothing yet
-abbrev pub opened_at : ℕ → Mode → Grid ℕ → Grid Cell → Duplicator
-opened_at place mode s p = record {
+abbrev pub opened_at : ℕ → Mode → Grid ℕ → Grid Bool → Duplicator
+opened_at place mode s hidden = record {
   memory = record { opened = place; mark = 0; held = None };
   surface = s;
-  picture = p;
+  hidden = hidden;
   mode = mode;
+  folded = 0;
 }
 
-pub stands_fresh : (h : History) (place : ℕ) (mode : Mode) (s : Grid ℕ) (p : Grid Cell) → mode ≡ desk_mode h
-    → s ≡ blank mode.width mode.height → p ≡ black mode.width mode.height
-    → StandsOnceOpened (opened_at place mode s p) h
-stands_fresh h place mode s p mode_is s_is p_is later begins opens =
+pub stands_fresh : (h : History) (place : ℕ) (mode : Mode) (s : Grid ℕ) (hidden : Grid Bool) → mode ≡ desk_mode h
+    → s ≡ blank mode.width mode.height → hidden ≡ nowhere mode.width mode.height
+    → StandsOnceOpened (opened_at place mode s hidden) h
+stands_fresh h place mode s hidden mode_is s_is hidden_is later begins opens =
     let still : mode ≡ desk_mode later = mode_is ∙ ap (λ (c : Spec). first_mode c.modes) (sym begins.spec) in
-    let shows : p ≡ picture (first_entries 0 later) = p_is ∙ ap (λ (m : Mode). black m.width m.height) still
-    ∙ sym (black_at_first later) in
+    let shows : black mode.width mode.height ≡ picture (first_entries 0 later) =
+    ap (λ (m : Mode). black m.width m.height) still ∙ sym (black_at_first later) in
     record {
       opened = opens;
       marked = omega arith;
       mode = still;
-      picture = shows;
-      surface = s_is ∙ seen-black mode.width mode.height ∙ ap seen (sym p_is ∙ shows);
+      hidden = hidden_is ∙ hidden-black mode.width mode.height ∙ ap hidden_points shows;
+      surface = s_is ∙ seen-black mode.width mode.height ∙ ap seen shows;
+      folded = omega arith;
     }
 
 -- what was granted is what was to be given
@@ -153,34 +167,103 @@ pub granted_is : {A : Type 0} (m : Memory) (h : History) (given other : A) → g
     → given ≡ other
 granted_is m h given other e = granted_for m (presents (news h m.mark)) given other e
 
+-- the entries from a mark on bring what is seen and what is hidden forward
+pub seen_forward : (h : History) (m : ℕ) (es : List Entry) → es ≡ news h m
+    → seen (shown (picture (first_entries m h)) es) ≡ view h
+seen_forward h m es is =
+    ap seen (ap (shown (picture (first_entries m h))) is ∙ picture_forward h m)
+
+pub hidden_forward : (h : History) (m : ℕ) (es : List Entry) → es ≡ news h m
+    → hidden_points (shown (picture (first_entries m h)) es) ≡ hidden_points (picture h)
+hidden_forward h m es is =
+    ap hidden_points (ap (shown (picture (first_entries m h))) is ∙ picture_forward h m)
+
+-- a picture that is drawn has a cell for each point
+whole-drawn_by : (p : Grid Cell) (op : Op) → length (drawn_by p op).cells ≡ (drawn_by p op).width * (drawn_by p op).height
+whole-drawn_by p (Fill rect colour) =
+    length-cells p.width p.height (λ x y. if has rect x y then plain colour else cell_at p x y)
+whole-drawn_by p (Blit rect colours) =
+    length-cells p.width p.height (λ x y. if has rect x y then plain (image_at rect colours x y) else cell_at p x y)
+whole-drawn_by p (Cover rect colours) =
+    length-cells p.width p.height
+    (λ x y. if has rect x y then covered_cell (image_at rect colours x y) else cell_at p x y)
+whole-drawn_by p (Scroll mv) =
+    length-cells p.width p.height
+    (λ x y. if has mv.dest x y then cell_at p (source_x mv x) (source_y mv y) else cell_at p x y)
+
+abbrev IsFull : Grid Cell → Type 0
+IsFull p = length p.cells ≡ p.width * p.height
+
+whole-drawn : (p : Grid Cell) (ops : List Op) → IsFull p → IsFull (drawn p ops)
+whole-drawn p [] whole = whole
+whole-drawn p (op ∷ ops) whole = whole-drawn (drawn_by p op) ops (whole-drawn_by p op)
+
+whole-drawn_if : (p : Grid Cell) (o : Option (List Op)) → IsFull p → IsFull (drawn_if p o)
+whole-drawn_if p None whole = whole
+whole-drawn_if p (Some ops) whole = whole-drawn p ops whole
+
+whole-shown : (p : Grid Cell) (es : List Entry) → IsFull p → IsFull (shown p es)
+whole-shown p [] whole = whole
+whole-shown p (e ∷ es) whole = whole-shown (shown_after p e.event) es (whole-drawn_if p (present_of e.event) whole)
+
+pub whole-picture : (h : History) → IsFull (picture h)
+unfolding picture
+whole-picture h =
+    whole-shown (black (desk_mode h).width (desk_mode h).height) h.entries
+    (length-cells (desk_mode h).width (desk_mode h).height (λ _ _. plain 0))
+
+-- what is granted where no frame is held and there are presents
+granted_for_some : {A : Type 0} (held : Bool) (o : Option A) (given : A) → held ≡ false → o ≡ Some given
+    → (if held then Err InvalidCall else ok_or o WaitTimeout) ≡ Ok given
+granted_for_some false (Some x) given e is = ap (λ (o : Option _). ok_or o WaitTimeout) is
+granted_for_some true o given e is = cc
+granted_for_some false None given e is = cc
+
+pub granted_where_any : {A : Type 0} (m : Memory) (h : History) (given told : A) → is_some m.held ≡ false
+    → where_any (presents (news h m.mark)) given ≡ Some told → granted m h given ≡ Ok told
+granted_where_any m h given told free is = ?
+
 -- the frame that is made of what is new
-pub frame_made : (h : History) (mark : ℕ) (n : News) (p : Grid Cell) (protected : Bool) → n ≡ news_since h mark
-    → p ≡ picture h → protected ≡ any_hidden p
-    → frame_from n protected ≡ frame h mark
-frame_made h mark n p protected n_is p_is hides =
-    ap (λ (m : News). frame_from m protected) n_is
-    ∙ ap (frame_from (news_since h mark)) (hides ∙ ap any_hidden p_is)
+pub news-hidden : (w h place : ℕ) (hidden : Grid Bool) (es : List Entry) → (news_of w h place hidden es).hidden ≡ hidden
+unfolding news_of
+news-hidden w h place hidden es = refl
+
+pub hidden_news : (h : History) (mark : ℕ) → (news_since h mark).hidden ≡ hidden_points (picture h)
+hidden_news h mark =
+    news-hidden (desk_mode h).width (desk_mode h).height mark (hidden_points (picture h)) (news h mark)
+
+pub frame_made : (h : History) (mark : ℕ) (n : News) → n ≡ news_since h mark
+    → frame_from n (any_hidden (picture h)) ≡ frame h mark
+frame_made h mark n n_is = ap (λ (m : News). frame_from m (any_hidden (picture h))) n_is
 
 -- a duplicator with these parts changed holds the frame of what is new
-abbrev pub changed : Duplicator → ℕ → Frame → Grid ℕ → Grid Cell → Duplicator
-changed d mark f s p = record d { memory = with_frame d.memory mark f; surface = s; picture = p }
+abbrev pub changed : Duplicator → ℕ → Frame → Grid ℕ → Grid Bool → ℕ → Duplicator
+changed d mark f s hidden folded = record d {
+  memory = with_frame d.memory mark f;
+  surface = s;
+  hidden = hidden;
+  folded = folded;
+}
 
-pub holds : (d : Duplicator) (h : History) (mark : ℕ) (f : Frame) (s : Grid ℕ) (p : Grid Cell)
-    → mark ≡ length h.entries → f ≡ frame h d.memory.mark → s ≡ view h → p ≡ picture h
-    → changed d mark f s p ≡ holding d h
-holds d h mark f s p mark_is f_is s_is p_is =
-    ap (λ n. changed d n f s p) mark_is
-    ∙ (ap (λ (g : Frame). changed d (length h.entries) g s p) f_is
-    ∙ (ap (λ (t : Grid ℕ). changed d (length h.entries) (frame h d.memory.mark) t p) s_is
-    ∙ ap (changed d (length h.entries) (frame h d.memory.mark) (view h)) p_is))
+pub holds : (d : Duplicator) (h : History) (mark : ℕ) (f : Frame) (s : Grid ℕ) (hidden : Grid Bool) (folded : ℕ)
+    → mark ≡ length h.entries → f ≡ frame h d.memory.mark → s ≡ view h → hidden ≡ hidden_points (picture h)
+    → folded ≡ d.folded + (length h.entries - d.memory.mark)
+    → changed d mark f s hidden folded ≡ holding d h
+holds d h mark f s hidden folded mark_is f_is s_is hidden_is folded_is =
+    ap (λ n. changed d n f s hidden folded) mark_is
+    ∙ (ap (λ (g : Frame). changed d (length h.entries) g s hidden folded) f_is
+    ∙ (ap (λ (t : Grid ℕ). changed d (length h.entries) (frame h d.memory.mark) t hidden folded) s_is
+    ∙ (ap (λ (g : Grid Bool). changed d (length h.entries) (frame h d.memory.mark) (view h) g folded) hidden_is
+    ∙ ap (changed d (length h.entries) (frame h d.memory.mark) (view h) (hidden_points (picture h))) folded_is)))
 
 pub stands_holding : (d : Duplicator) (h : History) → Stands d h → Stands (holding d h) h
 stands_holding d h stands = record {
   opened = stands.opened;
   marked = omega arith;
   mode = stands.mode;
-  picture = picture_all h;
+  hidden = ap hidden_points (picture_all h);
   surface = ap seen (picture_all h);
+  folded = omega (arith, stands.folded, stands.marked);
 }
 
 -- the frame's dirt is where the entries of its interval drew
@@ -189,8 +272,8 @@ reached h mark t exact x y e =
     let w = (desk_mode h).width in
     let k = (desk_mode h).height in
     let es = news h mark in
-    reached-news w k es x y (sym (news-coalesced w k mark es) ∙ exact)
-    (entries_fit-drop w k h.entries mark (legal-fit h t)) (ap (λ rs. any_has rs x y) (sym (news-dirt w k mark es)) ∙ e)
+    reached-news w k es x y (sym (news-coalesced w k mark (hidden_points (picture h)) es) ∙ exact)
+    (entries_fit-drop w k h.entries mark (legal-fit h t)) (ap (λ rs. any_has rs x y) (sym (news-dirt w k mark (hidden_points (picture h)) es)) ∙ e)
 
 -- and exactly there, where none of it was rounded
 pub exact : (h : History) (mark : ℕ) → legal h ≡ true → IsExactSince (Some (frame h mark)) h mark
@@ -198,8 +281,8 @@ exact h mark t kept =
     let w = (desk_mode h).width in
     let k = (desk_mode h).height in
     let es = news h mark in
-    news-dirt w k mark es
-    ∙ exact-news w k es (sym (news-coalesced w k mark es) ∙ kept) (entries_fit-drop w k h.entries mark (legal-fit h t))
+    news-dirt w k mark (hidden_points (picture h)) es
+    ∙ exact-news w k es (sym (news-coalesced w k mark (hidden_points (picture h)) es) ∙ kept) (entries_fit-drop w k h.entries mark (legal-fit h t))
 
 -- a frame rebuilds what is seen at the end of its interval
 pub rebuilds : FramesRebuild
@@ -212,9 +295,9 @@ rebuilds h mark t =
     let wide : p.width ≡ w = width-picture (first_entries mark h) in
     let high : p.height ≡ k = height-picture (first_entries mark h) in
     let fit : entries_fit w k es ≡ true = entries_fit-drop w k h.entries mark (legal-fit h t) in
-    ap (λ ms. rebuild (seen p) ms (frame h mark).dirt (view h)) (news-moves w k mark es)
+    ap (λ ms. rebuild (seen p) ms (frame h mark).dirt (view h)) (news-moves w k mark (hidden_points (picture h)) es)
     ∙ (ap (λ rs. rebuild (seen p) (moves_of es) rs (view h))
-    (news-dirt w k mark es ∙ (ap (λ n. dirt_of n k es) (sym wide) ∙ ap (λ n. dirt_of p.width n es) (sym high)))
+    (news-dirt w k mark (hidden_points (picture h)) es ∙ (ap (λ n. dirt_of n k es) (sym wide) ∙ ap (λ n. dirt_of p.width n es) (sym high)))
     ∙ (ap (λ (q : Grid Cell). rebuild (seen p) (moves_of es) (dirt_of p.width p.height es) (seen q)) (sym ahead)
     ∙ (rebuild-news p es
     (subst (λ (n : ℕ). entries_fit n p.height es ≡ true) (sym wide)

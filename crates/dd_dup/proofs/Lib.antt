@@ -1,4 +1,3 @@
 pub mod Entries
-pub mod Copies
 pub mod Advance
 pub mod Frames

@@ -6,6 +6,7 @@ abbrev pub value : Inside → Duplicator
 value d = record {
   memory = record { opened = d.opened; mark = d.mark; held = d.held };
   surface = d.surface;
-  picture = d.picture;
+  hidden = d.hidden;
   mode = d.mode;
+  folded = d.folded;
 }

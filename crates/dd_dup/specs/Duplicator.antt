@@ -1,9 +1,9 @@
 -- A duplicator's value, as contracts see it.
-use Rattle.std.specs.Prelude.{◌≡◌, ℕ, Bool, true, false, List, [], length, Option, Some, None, option_map}
+use Rattle.std.specs.Prelude.{◌≡◌, ℕ, ◌+◌, ◌-◌, Bool, true, false, List, [], length, Option, Some, None, option_map}
 use Rattle.dd_geom.specs.declared.rect.Rect.{Rect}
 use Rattle.dd_geom.specs.declared.rect.Move.{Move}
 use Rattle.dd_geom.specs.Grid.{Grid, grid}
-use Rattle.dd_grid.specs.Cell.{Cell}
+use Rattle.dd_grid.specs.Drawing.{hidden_points}
 use Rattle.dd_bits.specs.CanonicalList.{canonical_list}
 use Rattle.dd_modes.specs.declared.modes.Mode.{Mode}
 use Rattle.dd_acc.specs.Effects.{all_effects, any_reaches, drawn_afresh}
@@ -16,19 +16,23 @@ use Rattle.dd_dup.specs.declared.frame.Frame.{Frame}
 use Rattle.dd_dup.specs.News.{news, frame}
 use Rattle.dd_dup.specs.Reply.{Memory, with_frame, without_frame}
 
--- its memory, its own surface and picture, and the mode that it was opened in
+-- its memory, its own surface, the points that are hidden there, the mode that it was opened in, and how many entries
+-- it has drawn
 pub record Duplicator : Type 0 where
   pub memory : Memory
   pub surface : Grid ℕ
-  pub picture : Grid Cell
+  pub hidden : Grid Bool
   pub mode : Mode
+  pub folded : ℕ
 
--- after it holds the frame of what is new: its mark is the list's end, and its picture and surface are the desk's
+-- after it holds the frame of what is new: its mark is the list's end, its surface and the hidden points are the
+-- desk's, and the entries from the mark on were drawn
 abbrev pub holding : Duplicator → History → Duplicator
 holding d h = record d {
   memory = with_frame d.memory (length h.entries) (frame h d.memory.mark);
   surface = view h;
-  picture = picture h;
+  hidden = hidden_points (picture h);
+  folded = d.folded + (length h.entries - d.memory.mark);
 }
 
 -- after a release

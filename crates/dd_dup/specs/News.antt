@@ -3,7 +3,8 @@ use Rattle.std.specs.Prelude.{ℕ, ◌+◌, ◌*◌, Bool, false, if◌then◌el
 use Rattle.dd_geom.specs.declared.rect.TheConstants.{RECT_BYTES, MOVE_BYTES}
 use Rattle.dd_geom.specs.declared.rect.Rect.{Rect}
 use Rattle.dd_geom.specs.declared.rect.Move.{Move}
-use Rattle.dd_grid.specs.Drawing.{any_hidden}
+use Rattle.dd_geom.specs.Grid.{Grid}
+use Rattle.dd_grid.specs.Drawing.{any_hidden, hidden_points}
 use Rattle.dd_bits.specs.CanonicalList.{canonical_list}
 use Rattle.dd_ops.specs.declared.operations.Op.{Op}
 use Rattle.dd_acc.specs.Effects.{dirt, is_coalesced, moves}
@@ -35,19 +36,21 @@ moves_of es = moves (presents es)
 unfoldable pub dirt_of : ℕ → ℕ → List Entry → List Rect
 dirt_of w h es = canonical_list (dirt w h (presents es))
 
--- what some entries tell, where the first of them stands at a place
-unfoldable pub news_of : ℕ → ℕ → ℕ → List Entry → News
-news_of w h place es = record {
+-- what some entries tell, where the first of them stands at a place, and these points are hidden after them
+unfoldable pub news_of : ℕ → ℕ → ℕ → Grid Bool → List Entry → News
+news_of w h place hidden es = record {
   accumulated = length (presents es);
   last_present = last_present 0 place es;
   coalesced = is_coalesced w h (presents es);
   moves = moves_of es;
   dirt = dirt_of w h es;
+  hidden = hidden;
 }
 
 -- what is new from a mark on
 abbrev pub news_since : History → ℕ → News
-news_since h mark = news_of (desk_mode h).width (desk_mode h).height mark (news h mark)
+news_since h mark =
+    news_of (desk_mode h).width (desk_mode h).height mark (hidden_points (picture h)) (news h mark)
 
 -- something, where there are presents
 abbrev pub where_any : {A : Type 0} → List (List Op) → A → Option A

@@ -1,9 +1,6 @@
--- What private functions gather and copy: no public contract cites these words.
-use Rattle.std.specs.Prelude.{ℕ, List, fold, Option, Some, None}
-use Rattle.dd_geom.specs.declared.rect.Rect.{Rect}
+-- What private functions gather: no public contract cites these words.
+use Rattle.std.specs.Prelude.{ℕ, Bool, List, fold, Option, Some, None}
 use Rattle.dd_geom.specs.Grid.{Grid}
-use Rattle.dd_grid.specs.Cell.{Cell}
-use Rattle.dd_grid.specs.Drawing.{taken}
 use Rattle.dd_bits.specs.CanonicalList.{canonical_list}
 use Rattle.dd_ops.specs.declared.operations.Op.{Op}
 use Rattle.dd_acc.specs.Interval.{Interval, nothing, with_present}
@@ -33,16 +30,13 @@ gathered_of w h presents last =
 unfoldable pub gathered : ℕ → ℕ → ℕ → List Entry → Option Gathered
 gathered w h place es = gathered_of w h (presents es) (last_present 0 place es)
 
--- what it tells
-abbrev pub news_from : Gathered → News
-news_from g = record {
+-- what it tells, where these points are hidden at the end
+abbrev pub news_from : Grid Bool → Gathered → News
+news_from hidden g = record {
   accumulated = g.acc.frames;
   last_present = g.last;
   coalesced = g.acc.coalesced;
   moves = g.acc.moves;
   dirt = canonical_list g.acc.area;
+  hidden = hidden;
 }
-
--- rectangles copied from what is seen of a picture, one after another
-abbrev pub copied_each : Grid ℕ → List Rect → Grid Cell → Grid ℕ
-copied_each s rects p = fold (λ t r. taken t r p) s rects

@@ -3,27 +3,29 @@
 ghost use Rattle.std.specs.Prelude.{◌≡◌, Ok, Err, IsTrue, IfOk, OnOk, OnErr, length, option_map};
 
 use crate::calls::{DupCall, acquire, release, surface};
-use crate::forward::catch_up;
-use crate::frame::{Frame, News, frame_of};
+use crate::forward::draw_entries;
+use crate::frame::{Frame, Hidden, News, frame_of};
 use crate::news::tell;
+use dd_bits::Area;
 use dd_geom::{Move, Rect};
-use dd_grid::{Picture, Surface};
+use dd_grid::Surface;
 use dd_log::{Answer, DupRefusal, FrameInfo, Log};
 use dd_modes::Mode;
 use std::alloc::{AllocError, Global};
 use std::marker::Model;
 
-/// One duplicator. It holds the picture and the surface of its mark, and brings both forward by
-/// the entries that are new.
+/// One duplicator. It holds the surface of its mark and the set of the points that are hidden there,
+/// and brings both forward by the entries that are new.
 #[derive(Debug, Drop)]
 pub struct Dup {
     alloc: Global,
     opened: u64,
     mark: u64,
     mode: Mode,
-    picture: Picture,
     surface: Surface,
+    hidden: Hidden,
     held: Option<Frame>,
+    folded: u64,
 }
 
 impl Model for Dup {
@@ -52,16 +54,17 @@ impl Dup {
         ensures stands { IfOk result (λ d. StandsOnceOpened d log.now) }
     {
         let mode = log.mode();
-        let picture = Picture::new(alloc, mode.width, mode.height)?;
         let surface = Surface::new(alloc, mode.width, mode.height)?;
+        let hidden = Hidden::empty(alloc, mode.width, mode.height)?;
         Ok(Dup {
             alloc,
             opened: at,
             mark: 0,
             mode,
-            picture,
             surface,
+            hidden,
             held: None,
+            folded: 0,
         })
     }
 
@@ -74,7 +77,8 @@ impl Dup {
         if self.held.is_some() {
             return Err(DupRefusal::InvalidCall);
         }
-        match tell(self.alloc, log.mode(), self.mark, log.after(self.mark))? {
+        let entries = log.after(self.mark);
+        match tell(self.alloc, log.mode(), &self.hidden, self.mark, entries)? {
             None => Err(DupRefusal::WaitTimeout),
             Some(news) => Ok(news),
         }
@@ -88,16 +92,19 @@ impl Dup {
         ensures held { self.new ≡ holding self.old log.now }
         ensures legal { IsTrue (legal log.now) }
     {
-        catch_up(&mut self.picture, &mut self.surface, log, self.mark, &next);
-        let frame = frame_of(next, self.picture.any_hidden());
+        let entries = log.after(self.mark);
+        draw_entries(&mut self.surface, entries);
+        let (frame, hidden) = frame_of(next);
         let info = frame.info;
+        self.folded += entries.len() as u64;
+        self.hidden = hidden;
         self.mark = log.len();
         self.held = Some(frame);
         info
     }
 
-    /// Holds the frame of what `next_news` gave, with the picture and the surface brought forward, and
-    /// says what the frame tells. It takes no memory.
+    /// Holds the frame of what `next_news` gave, with the surface brought forward, and says what the
+    /// frame tells. It takes no memory.
     pub fn hold(&mut self, log: &Log, next: News) -> FrameInfo
         requires stands { Stands self.old log.now }
         requires next { granted self.old.memory log.now (news_since log.now self.old.memory.mark) ≡ Ok next }
@@ -165,6 +172,14 @@ impl Dup {
             DupCall::Release => Ok(release(self, log)),
             DupCall::Surface => surface(alloc, self, log),
         }
+    }
+
+    /// How many entries were drawn on the surface since the opening, each of them once: those from
+    /// where the desk's picture began up to the mark.
+    pub fn folded(&self) -> u64
+        ensures { result ≡ self.now.folded }
+    {
+        self.folded
     }
 
     /// The mode at the opening.

@@ -1,110 +1,69 @@
-//! A picture and a surface brought forward by the entries that are new.
+//! A surface, and the set of its hidden points, brought forward by the entries that are new.
+//!
+//! A hidden colour never comes to be seen: what is covered is black until something is drawn over it, and
+//! where it is scrolled the black goes with it. So the surface needs no picture beside it, and each
+//! operation is drawn once.
 
-ghost use Rattle.std.specs.Prelude.{◌≡◌, ◌≤◌, IsTrue, All, length};
-ghost use Rattle.dd_geom.specs.Grid.{SameSize};
-ghost use Rattle.dd_geom.specs.Rect.{is_inside, is_move_inside};
-ghost use Rattle.dd_grid.specs.Drawing.{seen};
-ghost use Rattle.dd_acc.specs.Rebuild.{all_moved};
-ghost use Rattle.dd_log.specs.History.{event_fits, entries_fit, first_entries};
-ghost use Rattle.dd_log.specs.Picture.{shown_after, shown, picture as picture_of, view as view_of};
-ghost use Rattle.dd_dup.specs.News.{moves_of, dirt_of, news_since};
-ghost use Rattle.dd_dup.specs.Walk.{copied_each};
+ghost use Rattle.std.specs.Prelude.{◌≡◌, IsTrue, IfOk, OnOk};
+ghost use Rattle.dd_geom.specs.Grid.{Grid, SameSize};
+ghost use Rattle.dd_grid.specs.Cell.{Cell};
+ghost use Rattle.dd_grid.specs.Drawing.{seen, hidden_points};
+ghost use Rattle.dd_log.specs.History.{event_fits, entries_fit};
+ghost use Rattle.dd_log.specs.Picture.{shown_after, shown};
 
-use crate::frame::News;
-use dd_geom::{Move, Rect};
-use dd_grid::{Picture, Surface};
-use dd_log::{Entry, Event, Log};
-use dd_ops::apply;
+use crate::frame::Hidden;
+use dd_acc::hide;
+use dd_bits::Area;
+use dd_grid::Surface;
+use dd_log::{Entry, Event};
+use dd_ops::apply_seen;
+use std::alloc::AllocError;
 
-/// Draws what an event draws.
-fn draw_event(picture: &mut Picture, event: &Event)
-    requires { IsTrue (event_fits picture.old.width picture.old.height event.now) }
-    ensures drawn { picture.new ≡ shown_after picture.old event.now }
-    ensures size { SameSize picture.old picture.new }
+/// Draws what is seen of an event.
+fn draw_event(surface: &mut Surface, event: &Event)
+    requires { IsTrue (event_fits surface.old.width surface.old.height event.now) }
+    ensures drawn { (p : Grid Cell) → surface.old ≡ seen p → surface.new ≡ seen (shown_after p event.now) }
+    ensures size { SameSize surface.old surface.new }
 {
     match event.present() {
         None => {}
-        Some(ops) => apply(picture, ops),
+        Some(ops) => apply_seen(surface, ops),
     }
 }
 
-/// Draws what the entries draw, in order.
-fn draw_entries(picture: &mut Picture, entries: &[Entry])
-    requires { IsTrue (entries_fit picture.old.width picture.old.height entries.now) }
-    ensures drawn { picture.new ≡ shown picture.old entries.now }
-    ensures size { SameSize picture.old picture.new }
-{
-    for entry in entries {
-        draw_event(picture, &entry.event);
-    }
-}
-
-/// Draws moves on a surface, in order.
-fn move_all(surface: &mut Surface, moves: &[Move])
-    requires { All (λ m. IsTrue (is_move_inside m surface.old.width surface.old.height)) moves.now }
-    ensures moved { surface.new ≡ all_moved surface.old moves.now }
+/// Draws what is seen of the entries, in order. It takes no memory.
+pub(crate) fn draw_entries(surface: &mut Surface, entries: &[Entry])
+    requires { IsTrue (entries_fit surface.old.width surface.old.height entries.now) }
+    ensures drawn { (p : Grid Cell) → surface.old ≡ seen p → surface.new ≡ seen (shown p entries.now) }
     ensures size { SameSize surface.old surface.new }
 {
-    for mv in moves {
-        surface.scroll(*mv);
+    for entry in entries {
+        draw_event(surface, &entry.event);
     }
 }
 
-/// Copies what is seen of the picture in the dirty rectangles.
-fn copy_dirt(surface: &mut Surface, rects: &[Rect], picture: &Picture)
-    requires inside { All (λ r. IsTrue (is_inside r surface.old.width surface.old.height)) rects.now }
-    requires size { SameSize surface.old picture.now }
-    ensures copied { surface.new ≡ copied_each surface.old rects.now picture.now }
-    ensures size_kept { SameSize surface.old surface.new }
+/// Brings the hidden points forward by an event.
+fn hide_event(hidden: &mut Hidden, event: &Event) -> Result<(), AllocError>
+    requires { IsTrue (event_fits hidden.old.width hidden.old.height event.now) }
+    ensures hidden { (p : Grid Cell) → hidden.old ≡ hidden_points p
+        → OnOk result (hidden.new ≡ hidden_points (shown_after p event.now)) }
+    ensures size { SameSize hidden.old hidden.new }
 {
-    for rect in rects {
-        surface.take(*rect, picture);
+    match event.present() {
+        None => Ok(()),
+        Some(ops) => hide(hidden, ops),
     }
 }
 
-/// Brings a picture, and the surface of what is seen of it, forward by the entries that are new.
-///
-/// `moves` and `rects` are the moves and the dirty rectangles of these entries. It takes no memory.
-fn advance(
-    picture: &mut Picture,
-    surface: &mut Surface,
-    entries: &[Entry],
-    moves: &[Move],
-    rects: &[Rect],
-)
-    requires fit { IsTrue (entries_fit picture.old.width picture.old.height entries.now) }
-    requires seen { surface.old ≡ seen picture.old }
-    requires moves { moves.now ≡ moves_of entries.now }
-    requires dirt { rects.now ≡ dirt_of picture.old.width picture.old.height entries.now }
-    ensures picture { picture.new ≡ shown picture.old entries.now }
-    ensures surface { surface.new ≡ seen (shown picture.old entries.now) }
+/// The hidden points after the entries, as a set of its own.
+pub(crate) fn hidden_at_end(hidden: &Hidden, entries: &[Entry]) -> Result<Hidden, AllocError>
+    requires { IsTrue (entries_fit hidden.now.width hidden.now.height entries.now) }
+    ensures { (p : Grid Cell) → hidden.now ≡ hidden_points p
+        → IfOk result (λ next. next ≡ hidden_points (shown p entries.now)) }
 {
-    draw_entries(picture, entries);
-    move_all(surface, moves);
-    copy_dirt(surface, rects, picture);
-}
-
-/// Brings the picture and the surface of a mark forward to the end of the list, by what is new since
-/// that mark. It takes no memory.
-pub(crate) fn catch_up(
-    picture: &mut Picture,
-    surface: &mut Surface,
-    log: &Log,
-    mark: u64,
-    next: &News,
-)
-    requires marked { mark ≤ length log.now.entries }
-    requires picture { picture.old ≡ picture_of (first_entries mark log.now) }
-    requires surface { surface.old ≡ view_of (first_entries mark log.now) }
-    requires next { next.now ≡ news_since log.now mark }
-    ensures picture { picture.new ≡ picture_of log.now }
-    ensures surface { surface.new ≡ view_of log.now }
-{
-    advance(
-        picture,
-        surface,
-        log.after(mark),
-        next.moves.as_slice(),
-        next.dirt.as_slice(),
-    );
+    let mut next = hidden.copy()?;
+    for entry in entries {
+        hide_event(&mut next, &entry.event)?;
+    }
+    Ok(next)
 }

@@ -11,7 +11,7 @@ mod news;
 pub use calls::DupCall;
 pub use dd_log::{DupRefusal, FrameInfo, Pointer};
 pub use duplicator::Dup;
-pub use frame::{Frame, News};
+pub use frame::{Frame, Hidden, News};
 pub use laws::{frames_are_reached, frames_rebuild, stands_later};
 
 #[cfg(test)]

@@ -1,22 +1,26 @@
 //! What is new: the entries from a mark on, walked once.
 
 ghost use Rattle.std.specs.Prelude.{◌≡◌, ◌+◌, ◌-◌, ◌^◌, ◌≤◌, ◌<◌, IsTrue, IsSome, IfOk, OnErr, length};
+ghost use Rattle.dd_geom.specs.Grid.{Grid};
 ghost use Rattle.dd_geom.specs.Rect.{IsSize};
+ghost use Rattle.dd_grid.specs.Cell.{Cell};
+ghost use Rattle.dd_grid.specs.Drawing.{hidden_points};
 ghost use Rattle.dd_log.specs.History.{event_fits, entries_fit, present_of};
-ghost use Rattle.dd_log.specs.Picture.{presents};
+ghost use Rattle.dd_log.specs.Picture.{presents, shown};
 ghost use Rattle.dd_log.specs.declared.events.TheConstants.{MAX_CAPACITY};
 ghost use Rattle.dd_dup.specs.News.{news_of, where_any};
 ghost use Rattle.dd_dup.specs.Walk.{interval_of, gathered_next, gathered, news_from as news_told};
 
-use crate::frame::News;
+use crate::forward::hidden_at_end;
+use crate::frame::{Hidden, News};
 use dd_acc::Acc;
-use dd_bits::Plane;
 use dd_log::{Entry, Event};
 use dd_modes::Mode;
+use dd_region::Bands;
 use std::alloc::{AllocError, Global};
 
 /// The set of dirty points that a duplicator accumulates.
-type Dirty = Plane;
+type Dirty = Bands;
 
 /// What is gathered from the first present on.
 #[derive(Drop)]
@@ -84,9 +88,9 @@ fn gather(
     Ok(so_far)
 }
 
-/// What was gathered, as news.
-fn news_from(gathered: Gathered) -> News
-    ensures { result ≡ news_told gathered }
+/// What was gathered, as news, with the points that are hidden then.
+fn news_from(gathered: Gathered, hidden: Hidden) -> News
+    ensures { result ≡ news_told hidden gathered }
 {
     let accumulated = gathered.acc.frames();
     let coalesced = gathered.acc.coalesced();
@@ -97,26 +101,36 @@ fn news_from(gathered: Gathered) -> News
         coalesced,
         moves,
         dirt,
+        hidden,
     }
 }
 
-/// What the entries tell, which begin at a place; nothing where none is a present. All memory that
-/// an acquire takes is taken here, and none before the first present.
+/// What the entries tell, which begin at a place; nothing where none is a present. `hidden` are the
+/// points that were hidden before them. All memory that an acquire takes is taken here, and none where
+/// there is no present.
 pub(crate) fn tell(
     alloc: Global,
     mode: Mode,
+    hidden: &Hidden,
     place: u64,
     entries: &[Entry],
 ) -> Result<Option<News>, AllocError>
     requires size { IsSize mode.width mode.height }
     requires fit { IsTrue (entries_fit mode.width mode.height entries.now) }
+    requires width { hidden.now.width ≡ mode.width }
+    requires height { hidden.now.height ≡ mode.height }
     requires few { length entries.now ≤ MAX_CAPACITY }
     requires places { place + length entries.now < 2 ^ 64 }
-    ensures value { IfOk result (λ n. n ≡ where_any (presents entries.now) (news_of mode.width mode.height place entries.now)) }
+    ensures value { (p : Grid Cell) → hidden.now ≡ hidden_points p
+        → IfOk result (λ n. n ≡ where_any (presents entries.now)
+        (news_of mode.width mode.height place (hidden_points (shown p entries.now)) entries.now)) }
     ensures err { OnErr result (1 ≤ length (presents entries.now)) }
 {
     match gather(alloc, mode, place, entries)? {
         None => Ok(None),
-        Some(gathered) => Ok(Some(news_from(gathered))),
+        Some(gathered) => {
+            let after = hidden_at_end(hidden, entries)?;
+            Ok(Some(news_from(gathered, after)))
+        }
     }
 }

@@ -3,7 +3,7 @@
 ghost use Rattle.std.specs.Prelude.{◌≡◌, nat_lt};
 ghost use Rattle.std.specs.List.{list_all};
 
-use crate::{COLOURS, Picture, Surface, seen_is_surface};
+use crate::{COLOURS, Picture, Surface, seen_commutes, seen_is_surface};
 use dd_geom::{Move, Point, Rect, move_inside, point_count, rect_inside};
 use std::process::Abort;
 use std::test::Fail;
@@ -247,6 +247,7 @@ fn set(rt: &impl Abort, surface: &mut Surface, x: u32, y: u32, colour: u32) {
 }
 
 #[test]
-fn the_law_can_be_called() {
+fn laws_can_be_called() {
+    seen_commutes();
     seen_is_surface();
 }

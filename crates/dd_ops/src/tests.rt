@@ -3,9 +3,12 @@
 ghost use Rattle.std.specs.Prelude.{◌≡◌, IsTrue, IfOk};
 ghost use Rattle.dd_ops.specs.Operations.{all_fit};
 
-use crate::{COLOURS, Colours, MAX_OPS, Op, Ops, OpsFault, apply, fits};
+use crate::{
+    COLOURS, Colours, MAX_OPS, Op, Ops, OpsFault, apply, apply_seen, drawn_is_picture, fits,
+    seen_follows,
+};
 use dd_geom::{Move, Point, Rect};
-use dd_grid::Picture;
+use dd_grid::{Picture, Surface};
 use std::alloc::{AllocError, Global};
 use std::process::Abort;
 use std::test::Fail;
@@ -339,6 +342,20 @@ fn check_picture(rt: &impl Abort, picture: &Picture, want: &Drawn) {
     }
 }
 
+/// What is seen on a surface is the colour of each cell, and black where it is hidden.
+fn check_surface(rt: &impl Abort, surface: &Surface, want: &Drawn) {
+    assert!(rt; surface.width() == 4 && surface.height() == 3);
+    for y in 0..3 {
+        let colours = want.colours[y as usize];
+        let hidden = want.hidden[y as usize];
+        let row = surface.row(y);
+        for x in 0..4 {
+            let seen = if hidden[x] == b'#' { 0 } else { colours[x] };
+            assert!(rt; row[x] == seen, "{}, at ({x}, {y})", want.name);
+        }
+    }
+}
+
 #[test]
 fn draws_in_order(rt: HostRuntime) -> Result<(), Fail> {
     for want in &DRAWN {
@@ -349,6 +366,9 @@ fn draws_in_order(rt: HostRuntime) -> Result<(), Fail> {
         assert!(rt; picture.width() == 4 && picture.height() == 3);
         assert_eq!(rt; picture.any_hidden(), want.any_hidden, "{}", want.name);
         check_picture(&rt, &picture, want);
+        let mut surface = Surface::new(rt.alloc(), 4, 3)?;
+        apply_seen(&mut surface, &ops);
+        check_surface(&rt, &surface, want);
     }
     Ok(())
 }
@@ -361,4 +381,10 @@ fn colours_keep_their_vector(rt: HostRuntime) -> Result<(), Fail> {
     assert_eq!(rt; copy.as_slice(), [1, RED].as_slice());
     assert_eq!(rt; colours.into_vec().as_slice(), [1, RED].as_slice());
     Ok(())
+}
+
+#[test]
+fn laws_can_be_called() {
+    drawn_is_picture();
+    seen_follows();
 }

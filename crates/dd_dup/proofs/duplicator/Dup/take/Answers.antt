@@ -1,40 +1,55 @@
-use Rattle.std.proofs.Common.{◌≡◌, ◌∙◌, sym, ap, subst}
+-- The entries from the mark on bring the surface and the hidden points to the desk's.
+use Rattle.std.proofs.Common.{◌≡◌, ◌+◌, ◌∙◌, ℕ, Bool, List, sym, ap, subst, length, arith}
+use Rattle.std.proofs.lemmas.List.{length-drop}
+use Rattle.dd_geom.specs.Grid.{Grid}
+use Rattle.dd_grid.specs.Drawing.{any_hidden}
+use Rattle.dd_log.specs.declared.events.Entry.{Entry}
+use Rattle.dd_log.specs.History.{first_entries}
+use Rattle.dd_log.specs.Picture.{picture}
 use Rattle.dd_dup.specs.declared.frame.Frame.{Frame}
+use Rattle.dd_dup.specs.declared.frame.News.{News}
 use Rattle.dd_dup.specs.Dup.{value}
 use Rattle.dd_dup.specs.Duplicator.{Duplicator, holding}
 use Rattle.dd_dup.specs.News.{frame, news_since}
 use Rattle.dd_dup.specs.Stands.{Stands}
-use Rattle.dd_dup.proofs.Frames.{frame_made, holds}
+use Rattle.dd_dup.proofs.Frames.{frame_made, hidden_news, holds, seen_forward, whole-picture, width-picture, height-picture}
 use Rattle.dd_dup.proofs.duplicator.Dup.take.Goals as goal
 
-pub catch_up-requires : goal.catch_up-requires
-catch_up-requires c =
+pub draw_entries-requires : goal.draw_entries-requires
+draw_entries-requires c =
     let h = c.args.log.now in
     let stands : Stands (value c.self.inside) h =
     subst (λ (d : Duplicator). Stands d h) (sym c.self.view_is) c.requires.stands in
-    record {
-      marked = stands.marked;
-      picture = stands.picture;
-      surface = stands.surface;
-      next = c.requires.next ∙ ap (λ (d : Duplicator). news_since h d.memory.mark) (sym c.self.view_is);
-    }
+    let wide = ap (λ (g : Grid ℕ). g.width) stands.surface ∙ width-picture (first_entries c.self.inside.mark h) in
+    let high = ap (λ (g : Grid ℕ). g.height) stands.surface ∙ height-picture (first_entries c.self.inside.mark h) in
+    rw (wide, high) c.after-entries.ensures.fit
+
+made : goal.returns-clause-info
+made c =
+    ap (λ (f : Frame). f.info)
+    (c.frame_of-frame.ensures.frame (picture c.args.log.now) (whole-picture c.args.log.now)
+    (ap (λ (n : News). n.hidden) c.requires.next ∙ hidden_news c.args.log.now c.args.self.now.memory.mark)
+    ∙ frame_made c.args.log.now c.args.self.now.memory.mark c.args.next c.requires.next)
 
 pub returns-clause-info : goal.returns-clause-info
-returns-clause-info c =
-    ap (λ (f : Frame). f.info)
-    (c.frame_of-frame.ensures
-    ∙ frame_made c.args.log.now c.args.self.now.memory.mark c.args.next c.catch_up.new.picture c.any_hidden.result
-    c.requires.next c.catch_up.ensures.picture c.any_hidden.ensures.value)
+returns-clause-info c = made c
 
 pub returns-clause-held : goal.returns-clause-held
 returns-clause-held c =
     let h = c.args.log.now in
-    let made : c.frame_of-frame.result ≡ frame h c.args.self.now.memory.mark =
-    c.frame_of-frame.ensures
-    ∙ frame_made h c.args.self.now.memory.mark c.args.next c.catch_up.new.picture c.any_hidden.result c.requires.next
-    c.catch_up.ensures.picture c.any_hidden.ensures.value in
-    holds (value c.self.inside) h c.len-self-inside.result c.frame_of-frame.result c.catch_up.new.surface
-    c.catch_up.new.picture c.len-self-inside.ensures.len
-    (made ∙ ap (λ (d : Duplicator). frame h d.memory.mark) (sym c.self.view_is)) c.catch_up.ensures.surface
-    c.catch_up.ensures.picture
-    ∙ ap (λ (d : Duplicator). holding d h) c.self.view_is
+    let d : Duplicator = value c.self.inside in
+    let stands : Stands d h = subst (λ (e : Duplicator). Stands e h) (sym c.self.view_is) c.requires.stands in
+    let mark_is : c.args.self.now.memory.mark ≡ c.self.inside.mark =
+    ap (λ (e : Duplicator). e.memory.mark) (sym c.self.view_is) in
+    let hidden_is = ap (λ (n : News). n.hidden) c.requires.next ∙ hidden_news h c.args.self.now.memory.mark in
+    holds d h c.len-self-inside.result c.frame_of-frame.result.0 c.draw_entries.new.surface c.frame_of-frame.result.1 _
+    c.len-self-inside.ensures.len
+    (c.frame_of-frame.ensures.frame (picture h) (whole-picture h) hidden_is
+    ∙ frame_made h c.args.self.now.memory.mark c.args.next c.requires.next
+    ∙ ap (frame h) mark_is)
+    (c.draw_entries.ensures.drawn (picture (first_entries c.self.inside.mark h)) stands.surface
+    ∙ seen_forward h c.self.inside.mark c.after-entries.result.now c.after-entries.ensures.value)
+    (c.frame_of-frame.ensures.hidden ∙ hidden_is)
+    (ap (λ n. c.self.inside.folded + n)
+    (ap (λ (es : List Entry). length es) c.after-entries.ensures.value ∙ length-drop c.self.inside.mark h.entries))
+    ∙ ap (λ (e : Duplicator). holding e h) c.self.view_is
