@@ -63,6 +63,10 @@ moved_cells = scrolled (plain 0)
 abbrev pub any_hidden : Grid Cell → Bool
 any_hidden p = list_any (λ c. c.hidden) p.cells
 
+-- the points whose cells are hidden
+abbrev pub hidden_points : Grid Cell → Grid Bool
+hidden_points p = grid p.width p.height (λ x y. (cell_at p x y).hidden)
+
 -- no cell is hidden
 abbrev pub ShowsAll : Grid Cell → Type 0
 ShowsAll p = (x y : ℕ) → (cell_at p x y).hidden ≡ false
