@@ -5,6 +5,7 @@ use Rattle.dd_geom.specs.declared.rect.Rect.{Rect}
 use Rattle.dd_geom.specs.declared.rect.Move.{Move}
 use Rattle.dd_geom.specs.Grid.{Grid, rows}
 use Rattle.dd_grid.specs.Drawing.{black, blank, seen}
+use Rattle.dd_bits.specs.Area.{nowhere}
 use Rattle.dd_bits.specs.CanonicalList.{run_end, same_rows, canonical_list}
 use Rattle.dd_bits.specs.Tiles.{tiles}
 use Rattle.dd_coal.specs.Power.{least_power_from, power}
@@ -14,6 +15,7 @@ use Rattle.dd_ops.specs.Operations.{drawn}
 use Rattle.std.specs.List.{fold, range_with_len}
 use Rattle.dd_acc.specs.declared.interval.TheConstants.{MAX_MOVES}
 use Rattle.dd_acc.specs.Effects.{over, shifted, fresh, kept, origin, dirtied, dirt, moves, any_reaches, is_coalesced}
+use Rattle.dd_acc.specs.Hidden.{hidden_after}
 use Rattle.dd_acc.specs.Rebuild.{all_moved, rebuild}
 
 max_moves : MAX_MOVES ≡ 16
@@ -218,3 +220,12 @@ one_more = sixty_four ∷ (point 64 ∷ []) ∷ []
 one_too_many : (canonical_list (dirt 130 1 one_more) ≡ rect 0 0 130 1 ∷ []) × (is_coalesced 130 1 one_more ≡ true)
 unfolding dirt dirtied canonical_list same_rows run_end tiles power least_power_from is_coalesced
 one_too_many = (refl, refl)
+
+-- two points are covered, carried over themselves, and one of them is shown again
+abbrev hiding : List Op
+hiding =
+    Cover (rect 1 0 3 1) (1 ∷ 2 ∷ []) ∷ Scroll (from 0 0 (rect 1 0 4 2)) ∷ Fill (rect 2 0 3 2) 7 ∷ []
+
+one_is_hidden : canonical_list (hidden_after (nowhere 4 3) hiding) ≡ rect 3 0 4 1 ∷ []
+unfolding canonical_list same_rows run_end
+one_is_hidden = refl

@@ -4,3 +4,4 @@ pub mod Honest
 pub mod Rebuilding
 pub mod Origins
 pub mod Nowhere
+pub mod Hiding

@@ -1,4 +1,4 @@
--- The empty set has no rectangles.
+-- The empty set has no point and no rectangles.
 use Rattle.std.proofs.Common.{◌≡◌, ℕ, ◌-◌, Bool, true, false, List, [], ◌∷◌, ◌++◌, refl, if◌then◌else◌, ap, ◌∙◌, ⊎_elim}
 use Rattle.std.specs.List.{flat_map, range_with_len}
 use Rattle.std.proofs.lemmas.Bool.{and_left, cond-false, cases_lt}
@@ -7,7 +7,7 @@ use Rattle.dd_geom.proofs.GridLemmas.{value_at-grid, value_at-right, value_at-be
 use Rattle.dd_bits.specs.Area.{is_in, nowhere}
 use Rattle.dd_bits.specs.CanonicalList.{starts_run, run_end, rect_from, run_at, starts_band, band_end, band_at, canonical_list}
 
-is_in-nowhere : (w h x y : ℕ) → is_in (nowhere w h) x y ≡ false
+pub is_in-nowhere : (w h x y : ℕ) → is_in (nowhere w h) x y ≡ false
 is_in-nowhere w h x y = ⊎_elim
     (λ across. ⊎_elim
     (λ down. value_at-grid false w h (λ a b. false) x y across down)

@@ -1,3 +1,4 @@
 pub mod Effects
 pub mod Rebuild
 pub mod Interval
+pub mod Hidden

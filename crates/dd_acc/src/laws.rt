@@ -1,6 +1,7 @@
 //! Laws of the definitions.
 
 ghost use Rattle.dd_acc.specs.Effects.{TouchedComposes, HonestDirt};
+ghost use Rattle.dd_acc.specs.Hidden.{HiddenFollows, NoneHidden};
 ghost use Rattle.dd_acc.specs.Interval.{Composes};
 ghost use Rattle.dd_acc.specs.Rebuild.{MovesAndDirtRebuild};
 
@@ -25,4 +26,16 @@ pub fn moves_and_dirt_rebuild()
 /// each dirty point was drawn, or was a scroll's destination.
 pub fn dirt_is_honest()
     ensures { HonestDirt }
+{}
+
+/// The hidden points of a picture that operations are drawn on are those of the picture before,
+/// brought forward.
+pub fn hidden_follows()
+    ensures { HiddenFollows }
+{}
+
+/// A picture with a cell for each point has no hidden cell exactly where its hidden points are the
+/// empty set.
+pub fn none_hidden()
+    ensures { NoneHidden }
 {}

@@ -6,10 +6,10 @@ ghost use Rattle.dd_geom.specs.Rect.{IsSize};
 ghost use Rattle.dd_ops.specs.Operations.{all_fit};
 
 use crate::{
-    Acc, FrameMoves, FrameRects, MAX_MOVES, dirt_is_honest, moves_and_dirt_rebuild,
-    presents_compose, touched_composes,
+    Acc, FrameMoves, FrameRects, MAX_MOVES, dirt_is_honest, hidden_follows, hide,
+    moves_and_dirt_rebuild, none_hidden, presents_compose, touched_composes,
 };
-use dd_bits::Plane;
+use dd_bits::{Area, Plane};
 use dd_coal::MAX_RECTS;
 use dd_geom::{Move, Point, Rect, point_count};
 use dd_ops::{Colours, Op, Ops, fits};
@@ -336,6 +336,40 @@ fn too_many_rectangles_are_rounded(rt: HostRuntime) -> Result<(), Fail> {
     Ok(())
 }
 
+/// Presents on 4 by 3 points of which none was hidden, and the list of the hidden ones after each.
+static HIDDEN: [(&str, &[Step], &[Rect]); 2] = [
+    (
+        "a cover, carried over itself, and shown again in part",
+        &[
+            Step::Cover(rect!(1, 0, 3, 1)),
+            Step::Scroll(from!(0, 0, rect!(1, 0, 4, 2))),
+            Step::Blit(rect!(2, 0, 3, 2)),
+        ],
+        &[rect!(3, 0, 4, 1)],
+    ),
+    (
+        "nothing hidden",
+        &[
+            Step::Fill(rect!(0, 0, 2, 1)),
+            Step::Blit(rect!(1, 0, 3, 1)),
+            Step::Scroll(DOWN),
+        ],
+        &[],
+    ),
+];
+
+#[test]
+fn hidden_points_are_brought_forward(rt: HostRuntime) -> Result<(), Fail> {
+    for (name, steps, want) in &HIDDEN {
+        let mut area = Plane::empty(rt.alloc(), 4, 3)?;
+        let ops = present(&rt, rt.alloc(), steps, 4, 3)?;
+        hide(&mut area, &ops)?;
+        let list = area.list()?;
+        assert_eq!(rt; list.as_slice(), *want, "{name}");
+    }
+    Ok(())
+}
+
 #[test]
 fn lists_of_a_frame(rt: HostRuntime) {
     let mut moves = FrameMoves::new();
@@ -352,4 +386,6 @@ fn laws_can_be_called() {
     presents_compose();
     moves_and_dirt_rebuild();
     dirt_is_honest();
+    hidden_follows();
+    none_hidden();
 }
