@@ -1,26 +1,20 @@
 -- What a frame tells rebuilds what is seen of the picture brought forward.
-use Rattle.std.proofs.Common.{◌≡◌, ℕ, ◌+◌, ◌*◌, Bool, true, false, ◌||◌, List, [], ◌∷◌, length, refl, sym, ap, ◌∙◌, subst, if◌then◌else◌, cond, arith, IsTrue}
-use Rattle.std.specs.List.{list_any, list_all, count_by, All}
-use Rattle.std.proofs.lemmas.Bool.{and_parts}
-use Rattle.std.proofs.lemmas.List.Elements.{All-nil, All-cons}
+use Rattle.std.proofs.Common.{◌≡◌, ℕ, ◌+◌, Bool, true, false, ◌||◌, List, [], ◌∷◌, refl, sym, ap, ◌∙◌, subst, if◌then◌else◌, cond, arith}
+use Rattle.std.specs.List.{list_any, count_by}
 use Rattle.std.proofs.lemmas.List.Sums.{sum_by-cons}
 use Rattle.dd_geom.specs.declared.rect.Rect.{Rect}
-use Rattle.dd_geom.specs.declared.rect.Move.{Move}
-use Rattle.dd_geom.specs.Rect.{has, is_inside, is_move_inside, source_x, source_y}
-use Rattle.dd_geom.specs.Grid.{Grid, grid, value_at}
-use Rattle.dd_geom.proofs.GridLemmas.{length-cells}
-use Rattle.dd_grid.specs.Cell.{Cell, seen_cell}
-use Rattle.dd_grid.specs.Drawing.{cell_at, moved, seen}
+use Rattle.dd_geom.specs.Rect.{has}
+use Rattle.dd_geom.specs.Grid.{Grid, grid}
+use Rattle.dd_grid.specs.Cell.{Cell}
+use Rattle.dd_grid.specs.Drawing.{seen}
 use Rattle.dd_bits.specs.Area.{is_in}
 use Rattle.dd_bits.specs.CanonicalList.{canonical_list}
-use Rattle.dd_bits.proofs.Cover.{count_by-canonical_list, All-canonical_list}
+use Rattle.dd_bits.proofs.Cover.{count_by-canonical_list}
 use Rattle.dd_ops.specs.declared.operations.Op.{Op}
-use Rattle.dd_acc.specs.Effects.{Effect, over, shifted, all_effects, moves_in, moves, dirt, is_coalesced, presents_fit, any_reaches, drawn_afresh}
-use Rattle.dd_acc.specs.Rebuild.{any_has, all_moved, rebuild, HasDrawn}
-use Rattle.dd_acc.proofs.Origins.{effect_fits}
-use Rattle.dd_acc.proofs.Counting.{each-fit}
-use Rattle.dd_acc.proofs.Honest.{drawn-dirt, width-dirt, height-dirt, honest}
-use Rattle.dd_acc.proofs.Rebuilding.{rebuilds, width-presents, height-presents, width-moved, height-moved}
+use Rattle.dd_acc.specs.Effects.{all_effects, moves, dirt, is_coalesced, presents_fit, any_reaches, drawn_afresh}
+use Rattle.dd_acc.specs.Rebuild.{any_has, rebuild, HasDrawn}
+use Rattle.dd_acc.proofs.Honest.{drawn-dirt, honest}
+use Rattle.dd_acc.proofs.Rebuilding.{rebuilds, width-presents, height-presents}
 use Rattle.dd_log.specs.declared.events.Entry.{Entry}
 use Rattle.dd_log.specs.History.{entries_fit}
 use Rattle.dd_log.specs.Picture.{presents, shown}

@@ -1,6 +1,6 @@
 -- Entries one after another: what one more adds to the presents, the picture and what is gathered.
-use Rattle.std.proofs.Common.{◌≡◌, ℕ, ◌+◌, ◌<◌, ◌≤◌, Bool, true, List, [], ◌∷◌, ◌++◌, length, take, drop, get_or, Option, Some, None, refl, sym, ap, ◌∙◌, append-nil, arith, length-append, if◌then◌else◌}
-use Rattle.std.specs.Prelude.{is_some, option_map, IsSome}
+use Rattle.std.proofs.Common.{◌≡◌, ℕ, ◌+◌, ◌<◌, ◌≤◌, Bool, true, List, [], ◌∷◌, ◌++◌, length, take, drop, get_or, Option, Some, None, Result, Ok, Err, refl, sym, ap, ◌∙◌, append-nil, arith, length-append, if◌then◌else◌}
+use Rattle.std.specs.Prelude.{is_some, option_map, IsSome, OnErr}
 use Rattle.std.specs.List.{fold, cons_option}
 use Rattle.std.proofs.lemmas.Bool.{and_parts, and_from}
 use Rattle.std.proofs.lemmas.List.{take_more, length-take, take-append-drop}
@@ -173,6 +173,22 @@ few_frames w h place k n es so_far k_in is =
           (take k es),
       length-take k es,
     )
+
+-- what holds holds of an error
+pub on_err : {T E : Type 0} (r : Result T E) (n : ℕ) → 1 ≤ n → OnErr r (1 ≤ n)
+on_err (Ok x) n some = tt
+on_err (Err e) n some = some
+
+-- what was gathered is of some present
+some_gathered : (w h last : ℕ) (ps : List (List Op)) (g : Gathered) → gathered_of w h ps last ≡ Some g
+    → 1 ≤ length ps
+some_gathered w h last [] g is = cc
+some_gathered w h last (p ∷ ps) g is = omega arith
+
+pub gathered_some : (w h place : ℕ) (es : List Entry) (g : Gathered) → gathered w h place es ≡ Some g
+    → 1 ≤ length (presents es)
+unfolding gathered
+gathered_some w h place es g is = some_gathered w h (last_present 0 place es) (presents es) g is
 
 -- as news
 news_made : (w h place last : ℕ) (hidden : Grid Bool) (es : List Entry) (i : Interval)

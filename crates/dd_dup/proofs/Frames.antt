@@ -212,16 +212,28 @@ whole-picture h =
     whole-shown (black (desk_mode h).width (desk_mode h).height) h.entries
     (length-cells (desk_mode h).width (desk_mode h).height (λ _ _. plain 0))
 
--- what is granted where no frame is held and there are presents
-granted_for_some : {A : Type 0} (held : Bool) (o : Option A) (given : A) → held ≡ false → o ≡ Some given
-    → (if held then Err InvalidCall else ok_or o WaitTimeout) ≡ Ok given
-granted_for_some false (Some x) given e is = ap (λ (o : Option _). ok_or o WaitTimeout) is
-granted_for_some true o given e is = cc
-granted_for_some false None given e is = cc
+-- what the entries from a mark on tell is what is new since it
+pub told_news : (h : History) (m : ℕ) (mode : Mode) (es : List Entry) (n : Option News) → es ≡ news h m
+    → mode ≡ desk_mode h
+    → n ≡ where_any (presents es)
+    (news_of mode.width mode.height m (hidden_points (shown (picture (first_entries m h)) es)) es)
+    → where_any (presents (news h m)) (news_since h m) ≡ n
+told_news h m mode es n es_are mode_is n_is =
+    let k = desk_mode h in
+    let now : Grid Bool = hidden_points (picture h) in
+    sym
+    (n_is
+    ∙ (ap (λ (g : Grid Bool). where_any (presents es) (news_of mode.width mode.height m g es))
+    (hidden_forward h m es es_are)
+    ∙ (ap (λ (c : Mode). where_any (presents es) (news_of c.width c.height m now es)) mode_is
+    ∙ ap (λ (xs : List Entry). where_any (presents xs) (news_of k.width k.height m now xs)) es_are)))
 
+-- what is granted where no frame is held and there are presents
 pub granted_where_any : {A : Type 0} (m : Memory) (h : History) (given told : A) → is_some m.held ≡ false
     → where_any (presents (news h m.mark)) given ≡ Some told → granted m h given ≡ Ok told
-granted_where_any m h given told free is = ?
+granted_where_any {A} m h given told free is =
+    ap (λ b. if b then Err InvalidCall else ok_or (where_any (presents (news h m.mark)) given) WaitTimeout) free
+    ∙ ap (λ (o : Option A). ok_or o WaitTimeout) is
 
 -- the frame that is made of what is new
 pub news-hidden : (w h place : ℕ) (hidden : Grid Bool) (es : List Entry) → (news_of w h place hidden es).hidden ≡ hidden

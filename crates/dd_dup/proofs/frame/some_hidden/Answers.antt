@@ -1,4 +1,4 @@
-use Rattle.std.proofs.Common.{◌≡◌, sym, subst, Bool}
+use Rattle.std.proofs.Common.{sym, subst, Bool}
 use Rattle.std.specs.Prelude.{IsTrue, ◌↔◌}
 use Rattle.dd_geom.specs.Grid.{Grid}
 use Rattle.dd_bits.specs.Area.{IsNowhere}

@@ -1,7 +1,6 @@
-use Rattle.std.proofs.Common.{ℕ, ◌+◌, ◌≤◌, ◌<◌, Result, Ok, Err, length, sym, ap, ◌∙◌, arith}
-use Rattle.std.specs.Prelude.{OnErr}
+use Rattle.std.proofs.Common.{◌+◌, ◌≤◌, ◌<◌, length, sym, ap, ◌∙◌, arith}
 use Rattle.dd_log.specs.declared.events.TheConstants.{MAX_CAPACITY}
-use Rattle.dd_dup.proofs.Entries.{fit_item, some_present, gathered_none, gathered_more, width-gathered, height-gathered, few_frames}
+use Rattle.dd_dup.proofs.Entries.{fit_item, some_present, gathered_none, gathered_more, width-gathered, height-gathered, few_frames, on_err}
 use Rattle.dd_dup.proofs.news.gather.Goals as goal
 
 pub loop-entry-init : goal.loop-entry-init
@@ -26,10 +25,6 @@ add_event-requires-clause-few c =
     let below : c.loop-entry.entry-index ≤ MAX_CAPACITY = omega arith in
     few_frames c.args.mode.width c.args.mode.height c.args.place c.loop-entry.entry-index MAX_CAPACITY
     c.args.entries.now c.loop-entry.so_far below c.loop-entry.invariant.so_far
-
-on_err : {T E : Type 0} (r : Result T E) (n : ℕ) → 1 ≤ n → OnErr r (1 ≤ n)
-on_err (Ok x) n some = tt
-on_err (Err e) n some = some
 
 pub returns-in_err-so_far-clause-err : goal.returns-in_err-so_far-clause-err
 returns-in_err-so_far-clause-err c =

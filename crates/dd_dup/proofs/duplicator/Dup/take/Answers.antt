@@ -1,8 +1,7 @@
 -- The entries from the mark on bring the surface and the hidden points to the desk's.
-use Rattle.std.proofs.Common.{◌≡◌, ◌+◌, ◌∙◌, ℕ, Bool, List, sym, ap, subst, length, arith}
+use Rattle.std.proofs.Common.{◌≡◌, ◌+◌, ◌∙◌, ℕ, List, sym, ap, subst, length}
 use Rattle.std.proofs.lemmas.List.{length-drop}
 use Rattle.dd_geom.specs.Grid.{Grid}
-use Rattle.dd_grid.specs.Drawing.{any_hidden}
 use Rattle.dd_log.specs.declared.events.Entry.{Entry}
 use Rattle.dd_log.specs.History.{first_entries}
 use Rattle.dd_log.specs.Picture.{picture}
@@ -10,7 +9,7 @@ use Rattle.dd_dup.specs.declared.frame.Frame.{Frame}
 use Rattle.dd_dup.specs.declared.frame.News.{News}
 use Rattle.dd_dup.specs.Dup.{value}
 use Rattle.dd_dup.specs.Duplicator.{Duplicator, holding}
-use Rattle.dd_dup.specs.News.{frame, news_since}
+use Rattle.dd_dup.specs.News.{frame}
 use Rattle.dd_dup.specs.Stands.{Stands}
 use Rattle.dd_dup.proofs.Frames.{frame_made, hidden_news, holds, seen_forward, whole-picture, width-picture, height-picture}
 use Rattle.dd_dup.proofs.duplicator.Dup.take.Goals as goal
