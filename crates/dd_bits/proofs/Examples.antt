@@ -4,6 +4,9 @@ use Rattle.dd_geom.specs.declared.rect.Rect.{Rect}
 use Rattle.dd_geom.specs.Grid.{Grid}
 use Rattle.dd_bits.specs.Area.{nowhere, with_rect}
 use Rattle.dd_bits.specs.CanonicalList.{run_end, same_rows, canonical_list}
+use Rattle.dd_bits.specs.Tiles.{tiles}
+use Rattle.dd_bits.specs.declared.commands.AreaCommand.TheVariants.{Add, Remove, MoveOver, Tiles}
+use Rattle.dd_bits.specs.Commands.{made_by}
 
 rect : ℕ → ℕ → ℕ → ℕ → Rect
 rect l t r b = record { left = pos l; top = pos t; right = pos r; bottom = pos b }
@@ -68,3 +71,8 @@ apart = refl
 beside : canonical_list (both (rect 0 0 1 3) (rect 2 1 4 3)) ≡ rect 0 0 1 1 ∷ rect 0 1 1 3 ∷ rect 2 1 4 3 ∷ []
 unfolding canonical_list same_rows run_end one both rect
 beside = refl
+
+-- each command once
+commands : canonical_list (made_by 4 3 (Add (rect 0 0 2 1) ∷ MoveOver (record { source = record { x = pos 0; y = pos 0 }; dest = rect 1 1 3 2 }) ∷ Remove (rect 2 1 3 2) ∷ Tiles 2 ∷ [])) ≡ rect 0 0 2 2 ∷ []
+unfolding canonical_list same_rows run_end tiles rect
+commands = refl

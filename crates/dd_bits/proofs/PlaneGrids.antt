@@ -59,7 +59,9 @@ none_marked : (g : Grid Bool) → length g.cells ≡ g.width * g.height → list
 none_marked g long none =
     grid_from_places false g.width g.height (λ x y. false) g.cells long (λ k l.
     elim (cases_Bool (get_or g.cells k false)) [
-      | inl t ↦ absurd (both_ways (list_any (λ b. b) g.cells) none (list_any_at (λ b. b) g.cells k false (omega arith) t))
+      | inl t ↦
+          let some : list_any (λ b. b) g.cells ≡ true = list_any_at (λ b. b) g.cells k false (omega arith) t in
+          absurd (both_ways (list_any (λ b. b) g.cells) none some)
       | inr e ↦ e
     ])
 

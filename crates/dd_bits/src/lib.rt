@@ -2,15 +2,15 @@
 #![tactic(auto)]
 
 mod area;
+mod commands;
 mod laws;
 mod plane;
 mod runs;
 #[cfg(test)]
 mod tests;
-#[cfg(test)]
-mod tile_tests;
 mod tiling;
 
 pub use area::Area;
+pub use commands::{AreaCommand, AreaCommands, area_run};
 pub use laws::{list_covers, list_has, list_inside, list_sorted, list_tells, tiles_nest};
 pub use plane::Plane;

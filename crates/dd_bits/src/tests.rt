@@ -1,8 +1,12 @@
-//! Cases of sets of points, which each kind of area is to answer alike.
+//! Cases of sets of points, told by the commands that make each. The lists of sets stand in the
+//! table of dd_region, which each kind of area answers.
 
-use crate::{Area, Plane, list_covers, list_has, list_inside, list_sorted, list_tells};
-use dd_geom::{Move, Point, Rect, move_inside, rect_inside};
-use std::alloc::{AllocError, Global};
+use crate::commands::area_of;
+use crate::{
+    Area, AreaCommand, AreaCommands, Plane, list_covers, list_has, list_inside, list_sorted,
+    list_tells, tiles_nest,
+};
+use dd_geom::{Move, Point, Rect};
 use std::process::Abort;
 use std::test::Fail;
 
@@ -21,165 +25,149 @@ macro_rules! rect {
     };
 }
 
-macro_rules! scroll {
-    ($x:expr, $y:expr, $dest:expr) => {
-        Move {
-            source: Point { x: $x, y: $y },
-            dest: $dest,
-        }
+macro_rules! add {
+    ($left:expr, $top:expr, $right:expr, $bottom:expr) => {
+        AreaCommand::Add(rect!($left, $top, $right, $bottom))
     };
 }
 
-/// A surface of 6 by 4: the rectangles that are added, the moves that then carry the set over, the
-/// points that are in it at last, and the list.
-struct Case {
-    name: &'static str,
-    added: &'static [Rect],
-    moved: &'static [Move],
-    points: [&'static [u8; 6]; 4],
-    list: &'static [Rect],
+macro_rules! carry {
+    ($x:expr, $y:expr, $dest:expr) => {
+        AreaCommand::MoveOver(Move {
+            source: Point { x: $x, y: $y },
+            dest: $dest,
+        })
+    };
 }
 
-static CASES: [Case; 15] = [
+/// A surface of 6 by 4: the commands that make a set, and its points.
+struct Case {
+    name: &'static str,
+    commands: &'static [AreaCommand],
+    points: [&'static [u8; 6]; 4],
+}
+
+static CASES: [Case; 19] = [
     Case {
-        name: "nothing",
-        added: &[],
-        moved: &[],
-        points: [b"......", b"......", b"......", b"......"],
-        list: &[],
-    },
-    Case {
-        name: "a square in a corner",
-        added: &[rect!(0, 0, 2, 2)],
-        moved: &[],
-        points: [b"##....", b"##....", b"......", b"......"],
-        list: &[rect!(0, 0, 2, 2)],
-    },
-    Case {
-        name: "two runs of one row, the right one added first",
-        added: &[rect!(4, 1, 6, 2), rect!(1, 1, 3, 2)],
-        moved: &[],
-        points: [b"......", b".##.##", b"......", b"......"],
-        list: &[rect!(1, 1, 3, 2), rect!(4, 1, 6, 2)],
-    },
-    Case {
-        name: "rectangles that touch and overlap",
-        added: &[rect!(0, 2, 3, 3), rect!(3, 2, 5, 3), rect!(2, 2, 4, 3)],
-        moved: &[],
-        points: [b"......", b"......", b"#####.", b"......"],
-        list: &[rect!(0, 2, 5, 3)],
-    },
-    Case {
-        name: "a cross",
-        added: &[rect!(2, 0, 3, 4), rect!(0, 1, 6, 2)],
-        moved: &[],
-        points: [b"..#...", b"######", b"..#...", b"..#..."],
-        list: &[rect!(2, 0, 3, 1), rect!(0, 1, 6, 2), rect!(2, 2, 3, 4)],
-    },
-    Case {
-        name: "the last point, and the whole first row",
-        added: &[rect!(5, 3, 6, 4), rect!(0, 0, 6, 1)],
-        moved: &[],
-        points: [b"######", b"......", b"......", b".....#"],
-        list: &[rect!(0, 0, 6, 1), rect!(5, 3, 6, 4)],
-    },
-    Case {
-        name: "the whole surface",
-        added: &[rect!(0, 0, 6, 2), rect!(0, 2, 6, 4)],
-        moved: &[],
-        points: [b"######", b"######", b"######", b"######"],
-        list: &[rect!(0, 0, 6, 4)],
-    },
-    Case {
-        name: "a corner, cut where its rows differ",
-        added: &[rect!(0, 0, 1, 2), rect!(0, 0, 3, 1)],
-        moved: &[],
-        points: [b"###...", b"#.....", b"......", b"......"],
-        list: &[rect!(0, 0, 3, 1), rect!(0, 1, 1, 2)],
-    },
-    Case {
-        name: "equal rows apart from each other",
-        added: &[rect!(1, 0, 3, 1), rect!(1, 2, 3, 4)],
-        moved: &[],
-        points: [b".##...", b"......", b".##...", b".##..."],
-        list: &[rect!(1, 0, 3, 1), rect!(1, 2, 3, 4)],
-    },
-    Case {
-        name: "three columns, the last one longer",
-        added: &[rect!(4, 0, 5, 3), rect!(0, 0, 1, 2), rect!(2, 0, 3, 2)],
-        moved: &[],
-        points: [b"#.#.#.", b"#.#.#.", b"....#.", b"......"],
-        list: &[
-            rect!(0, 0, 1, 2),
-            rect!(2, 0, 3, 2),
-            rect!(4, 0, 5, 2),
-            rect!(4, 2, 5, 3),
+        name: "a cross with a hole, and the last point",
+        commands: &[
+            add!(2, 0, 3, 4),
+            add!(0, 1, 6, 2),
+            add!(5, 3, 6, 4),
+            AreaCommand::Remove(rect!(2, 1, 3, 2)),
         ],
+        points: [b"..#...", b"##.###", b"..#...", b"..#..#"],
     },
     Case {
         name: "carried one column right, over itself",
-        added: &[rect!(0, 0, 2, 1), rect!(3, 0, 4, 1)],
-        moved: &[scroll!(0, 0, rect!(1, 0, 5, 1))],
+        commands: &[
+            add!(0, 0, 2, 1),
+            add!(3, 0, 4, 1),
+            carry!(0, 0, rect!(1, 0, 5, 1)),
+        ],
         points: [b"###.#.", b"......", b"......", b"......"],
-        list: &[rect!(0, 0, 3, 1), rect!(4, 0, 5, 1)],
-    },
-    Case {
-        name: "carried one column left, over itself",
-        added: &[rect!(1, 0, 2, 1), rect!(4, 0, 6, 1)],
-        moved: &[scroll!(1, 0, rect!(0, 0, 5, 1))],
-        points: [b"#..###", b"......", b"......", b"......"],
-        list: &[rect!(0, 0, 1, 1), rect!(3, 0, 6, 1)],
-    },
-    Case {
-        name: "carried one row down, over itself",
-        added: &[rect!(0, 0, 1, 1), rect!(2, 1, 3, 2)],
-        moved: &[scroll!(0, 0, rect!(0, 1, 3, 4))],
-        points: [b"#.....", b"#.....", b"..#...", b"......"],
-        list: &[rect!(0, 0, 1, 2), rect!(2, 2, 3, 3)],
     },
     Case {
         name: "carried one row up, over itself",
-        added: &[rect!(0, 1, 1, 2), rect!(2, 3, 3, 4)],
-        moved: &[scroll!(0, 1, rect!(0, 0, 3, 3))],
+        commands: &[
+            add!(0, 1, 1, 2),
+            add!(2, 3, 3, 4),
+            carry!(0, 1, rect!(0, 0, 3, 3)),
+        ],
         points: [b"#.....", b"......", b"..#...", b"..#..."],
-        list: &[rect!(0, 0, 1, 1), rect!(2, 2, 3, 4)],
     },
     Case {
         name: "nothing is left under a destination whose source is empty",
-        added: &[rect!(4, 2, 6, 4)],
-        moved: &[scroll!(0, 0, rect!(4, 2, 6, 4))],
+        commands: &[add!(4, 2, 6, 4), carry!(0, 0, rect!(4, 2, 6, 4))],
         points: [b"......", b"......", b"......", b"......"],
-        list: &[],
+    },
+    Case {
+        name: "nothing, to tiles of two",
+        commands: &[AreaCommand::Tiles(2)],
+        points: [b"......", b"......", b"......", b"......"],
+    },
+    Case {
+        name: "nothing, to one tile",
+        commands: &[AreaCommand::Tiles(8192)],
+        points: [b"......", b"......", b"......", b"......"],
+    },
+    Case {
+        name: "tiles of one point",
+        commands: &[add!(1, 1, 2, 2), add!(4, 3, 6, 4), AreaCommand::Tiles(1)],
+        points: [b"......", b".#....", b"......", b"....##"],
+    },
+    Case {
+        name: "one point, to a tile of two",
+        commands: &[add!(3, 2, 4, 3), AreaCommand::Tiles(2)],
+        points: [b"......", b"......", b"..##..", b"..##.."],
+    },
+    Case {
+        name: "one point, to a tile of four",
+        commands: &[add!(3, 2, 4, 3), AreaCommand::Tiles(4)],
+        points: [b"####..", b"####..", b"####..", b"####.."],
+    },
+    Case {
+        name: "one point, to one tile",
+        commands: &[add!(3, 2, 4, 3), AreaCommand::Tiles(8192)],
+        points: [b"######", b"######", b"######", b"######"],
+    },
+    Case {
+        name: "one point, to the greatest tile",
+        commands: &[add!(5, 3, 6, 4), AreaCommand::Tiles(u32::MAX)],
+        points: [b"######", b"######", b"######", b"######"],
+    },
+    Case {
+        name: "a tile that the right side cuts",
+        commands: &[add!(5, 1, 6, 2), AreaCommand::Tiles(4)],
+        points: [b"....##", b"....##", b"....##", b"....##"],
+    },
+    Case {
+        name: "a tile that the lower side cuts",
+        commands: &[add!(1, 3, 2, 4), AreaCommand::Tiles(3)],
+        points: [b"......", b"......", b"......", b"###..."],
+    },
+    Case {
+        name: "a tile that both sides cut",
+        commands: &[add!(5, 3, 6, 4), AreaCommand::Tiles(5)],
+        points: [b".....#", b".....#", b".....#", b".....#"],
+    },
+    Case {
+        name: "two points side by side in two tiles",
+        commands: &[add!(1, 1, 3, 2), AreaCommand::Tiles(2)],
+        points: [b"####..", b"####..", b"......", b"......"],
+    },
+    Case {
+        name: "two points one over the other in two tiles",
+        commands: &[add!(2, 1, 3, 3), AreaCommand::Tiles(2)],
+        points: [b"..##..", b"..##..", b"..##..", b"..##.."],
+    },
+    Case {
+        name: "tiles are counted from the surface's corner",
+        commands: &[add!(1, 0, 2, 1), add!(4, 3, 5, 4), AreaCommand::Tiles(3)],
+        points: [b"###...", b"###...", b"###...", b"...###"],
+    },
+    Case {
+        name: "to tiles of two, then to tiles of four",
+        commands: &[
+            add!(3, 2, 4, 3),
+            AreaCommand::Tiles(2),
+            AreaCommand::Tiles(4),
+        ],
+        points: [b"####..", b"####..", b"####..", b"####.."],
+    },
+    Case {
+        name: "to tiles of two, then to tiles of three",
+        commands: &[
+            add!(3, 0, 4, 1),
+            AreaCommand::Tiles(2),
+            AreaCommand::Tiles(3),
+        ],
+        points: [b"######", b"######", b"######", b"......"],
     },
 ];
 
-/// The area of a surface of 6 by 4 to which rectangles are added, which moves then carry over, and
-/// which is then rounded to tiles, one side after the other.
-pub(crate) fn area_of<A: Area>(
-    rt: &impl Abort,
-    alloc: Global,
-    added: &[Rect],
-    moved: &[Move],
-    sides: &[u32],
-) -> Result<A, AllocError> {
-    let mut area = A::empty(alloc, WIDTH, HEIGHT)?;
-    for r in added {
-        assert!(rt; rect_inside(*r, WIDTH, HEIGHT));
-        area.add(*r)?;
-    }
-    for m in moved {
-        assert!(rt; move_inside(*m, WIDTH, HEIGHT));
-        area.move_over(*m)?;
-    }
-    for t in sides {
-        assert!(rt; *t >= 1);
-        area.tiles(*t)?;
-    }
-    Ok(area)
-}
-
 /// An area has these points, and none outside the surface.
-pub(crate) fn check_points<A: Area>(rt: &impl Abort, area: &A, points: &[&[u8; 6]; 4], name: &str) {
+fn check_points<A: Area>(rt: &impl Abort, area: &A, points: &[&[u8; 6]; 4], name: &str) {
     for (y, row) in (0..).zip(points) {
         for (x, point) in (0..).zip(*row) {
             assert!(rt; area.has(x, y) == (*point == b'#'), "{name}, at ({x}, {y})");
@@ -189,20 +177,25 @@ pub(crate) fn check_points<A: Area>(rt: &impl Abort, area: &A, points: &[&[u8; 6
     assert!(rt; !outside, "{name}, outside");
 }
 
-/// Each case on one kind of area.
-fn run_cases<A: Area>(rt: &impl Abort, alloc: Global) -> Result<(), AllocError> {
+#[test]
+fn planes_have_the_points(rt: HostRuntime) -> Result<(), Fail> {
     for case in &CASES {
-        let area: A = area_of(rt, alloc, case.added, case.moved, &[])?;
-        check_points(rt, &area, &case.points, case.name);
-        let list = area.list()?;
-        assert_eq!(rt; list.as_slice(), case.list, "{}", case.name);
+        let commands = AreaCommands::from_vec(case.commands.to_vec(rt.alloc())?);
+        assert!(rt; commands.fit(WIDTH, HEIGHT), "{}", case.name);
+        let area: Plane = area_of(rt.alloc(), WIDTH, HEIGHT, commands.as_slice())?;
+        check_points(&rt, &area, &case.points, case.name);
     }
     Ok(())
 }
 
 #[test]
-fn planes_answer_the_cases(rt: HostRuntime) -> Result<(), Fail> {
-    run_cases::<Plane>(&rt, rt.alloc())?;
+fn a_copy_stands_alone(rt: HostRuntime) -> Result<(), Fail> {
+    let mut area = Plane::empty(rt.alloc(), WIDTH, HEIGHT)?;
+    let empty = area.copy()?;
+    area.add(rect!(1, 1, 3, 2))?;
+    assert!(rt; empty.is_empty() && !area.is_empty());
+    let list = area.copy()?.list()?;
+    assert_eq!(rt; list.as_slice(), [rect!(1, 1, 3, 2)].as_slice());
     Ok(())
 }
 
@@ -213,4 +206,5 @@ fn laws_can_be_called() {
     list_has();
     list_sorted();
     list_tells();
+    tiles_nest();
 }

@@ -1,12 +1,12 @@
-//! Cases that each kind of area is to answer alike: bands and a plane beside each other.
+//! Cases that each kind of area is to answer alike: a plane and bands.
 
-ghost use Rattle.std.specs.Prelude.{◌≡◌, ◌≤◌, ◌<◌, IfOk, OnOk};
-ghost use Rattle.dd_geom.specs.Grid.{SameSize};
+ghost use Rattle.std.specs.Prelude.{◌≤◌, ◌<◌};
+ghost use Rattle.std.specs.Bool.{OnTrue};
 ghost use Rattle.dd_geom.specs.Rect.{IsSize};
 
 use crate::Bands;
-use dd_bits::{Area, Plane};
-use dd_geom::{Move, Point, Rect, move_inside, rect_inside};
+use dd_bits::{Area, AreaCommand, AreaCommands, Plane, area_run};
+use dd_geom::{Move, Point, Rect, Rects};
 use std::alloc::{AllocError, Global};
 use std::process::Abort;
 use std::test::Fail;
@@ -22,6 +22,18 @@ macro_rules! rect {
     };
 }
 
+macro_rules! add {
+    ($left:expr, $top:expr, $right:expr, $bottom:expr) => {
+        AreaCommand::Add(rect!($left, $top, $right, $bottom))
+    };
+}
+
+macro_rules! remove {
+    ($left:expr, $top:expr, $right:expr, $bottom:expr) => {
+        AreaCommand::Remove(rect!($left, $top, $right, $bottom))
+    };
+}
+
 macro_rules! scroll {
     ($x:expr, $y:expr, $dest:expr) => {
         Move {
@@ -31,39 +43,39 @@ macro_rules! scroll {
     };
 }
 
-/// One call that changes a set.
-#[derive(Clone, Copy, Debug)]
-enum Command {
-    Add(Rect),
-    Remove(Rect),
-    Move(Move),
-    Tiles(u32),
+macro_rules! carry {
+    ($x:expr, $y:expr, $dest:expr) => {
+        AreaCommand::MoveOver(scroll!($x, $y, $dest))
+    };
 }
 
-/// A surface of 4 by 3: the commands, and the list that they leave.
+/// A surface of `width` by `height` points: the commands, and the list that they leave.
 struct Case {
     name: &'static str,
-    commands: &'static [Command],
+    width: u32,
+    height: u32,
+    commands: &'static [AreaCommand],
     list: &'static [Rect],
 }
 
-static CASES: [Case; 6] = [
+static CASES: [Case; 21] = [
     Case {
         name: "each call once",
+        width: 4,
+        height: 3,
         commands: &[
-            Command::Add(rect!(0, 0, 2, 1)),
-            Command::Move(scroll!(0, 0, rect!(1, 1, 3, 2))),
-            Command::Remove(rect!(2, 1, 3, 2)),
-            Command::Tiles(2),
+            add!(0, 0, 2, 1),
+            carry!(0, 0, rect!(1, 1, 3, 2)),
+            remove!(2, 1, 3, 2),
+            AreaCommand::Tiles(2),
         ],
         list: &[rect!(0, 0, 2, 2)],
     },
     Case {
         name: "a rectangle with a hole",
-        commands: &[
-            Command::Add(rect!(0, 0, 4, 3)),
-            Command::Remove(rect!(1, 1, 3, 2)),
-        ],
+        width: 4,
+        height: 3,
+        commands: &[add!(0, 0, 4, 3), remove!(1, 1, 3, 2)],
         list: &[
             rect!(0, 0, 4, 1),
             rect!(0, 1, 1, 2),
@@ -73,20 +85,24 @@ static CASES: [Case; 6] = [
     },
     Case {
         name: "a hole that is filled again, from both sides",
+        width: 4,
+        height: 3,
         commands: &[
-            Command::Add(rect!(0, 0, 4, 3)),
-            Command::Remove(rect!(1, 0, 3, 3)),
-            Command::Add(rect!(2, 0, 3, 3)),
-            Command::Add(rect!(1, 0, 2, 3)),
+            add!(0, 0, 4, 3),
+            remove!(1, 0, 3, 3),
+            add!(2, 0, 3, 3),
+            add!(1, 0, 2, 3),
         ],
         list: &[rect!(0, 0, 4, 3)],
     },
     Case {
         name: "a hole carried over itself",
+        width: 4,
+        height: 3,
         commands: &[
-            Command::Add(rect!(0, 0, 4, 3)),
-            Command::Remove(rect!(1, 0, 2, 1)),
-            Command::Move(scroll!(0, 0, rect!(1, 1, 4, 3))),
+            add!(0, 0, 4, 3),
+            remove!(1, 0, 2, 1),
+            carry!(0, 0, rect!(1, 1, 4, 3)),
         ],
         list: &[
             rect!(0, 0, 1, 1),
@@ -98,83 +114,202 @@ static CASES: [Case; 6] = [
     },
     Case {
         name: "tiles that both sides cut",
-        commands: &[Command::Add(rect!(3, 2, 4, 3)), Command::Tiles(3)],
+        width: 4,
+        height: 3,
+        commands: &[add!(3, 2, 4, 3), AreaCommand::Tiles(3)],
         list: &[rect!(3, 0, 4, 3)],
     },
     Case {
         name: "tiles greater than the surface",
-        commands: &[Command::Add(rect!(3, 2, 4, 3)), Command::Tiles(4294967295)],
+        width: 4,
+        height: 3,
+        commands: &[add!(3, 2, 4, 3), AreaCommand::Tiles(4294967295)],
         list: &[rect!(0, 0, 4, 3)],
+    },
+    Case {
+        name: "nothing",
+        width: 6,
+        height: 4,
+        commands: &[],
+        list: &[],
+    },
+    Case {
+        name: "a square in a corner",
+        width: 6,
+        height: 4,
+        commands: &[add!(0, 0, 2, 2)],
+        list: &[rect!(0, 0, 2, 2)],
+    },
+    Case {
+        name: "two runs of one row, the right one added first",
+        width: 6,
+        height: 4,
+        commands: &[add!(4, 1, 6, 2), add!(1, 1, 3, 2)],
+        list: &[rect!(1, 1, 3, 2), rect!(4, 1, 6, 2)],
+    },
+    Case {
+        name: "rectangles that touch and overlap",
+        width: 6,
+        height: 4,
+        commands: &[add!(0, 2, 3, 3), add!(3, 2, 5, 3), add!(2, 2, 4, 3)],
+        list: &[rect!(0, 2, 5, 3)],
+    },
+    Case {
+        name: "a cross",
+        width: 6,
+        height: 4,
+        commands: &[add!(2, 0, 3, 4), add!(0, 1, 6, 2)],
+        list: &[rect!(2, 0, 3, 1), rect!(0, 1, 6, 2), rect!(2, 2, 3, 4)],
+    },
+    Case {
+        name: "the last point, and the whole first row",
+        width: 6,
+        height: 4,
+        commands: &[add!(5, 3, 6, 4), add!(0, 0, 6, 1)],
+        list: &[rect!(0, 0, 6, 1), rect!(5, 3, 6, 4)],
+    },
+    Case {
+        name: "the whole surface",
+        width: 6,
+        height: 4,
+        commands: &[add!(0, 0, 6, 2), add!(0, 2, 6, 4)],
+        list: &[rect!(0, 0, 6, 4)],
+    },
+    Case {
+        name: "a corner, cut where its rows differ",
+        width: 6,
+        height: 4,
+        commands: &[add!(0, 0, 1, 2), add!(0, 0, 3, 1)],
+        list: &[rect!(0, 0, 3, 1), rect!(0, 1, 1, 2)],
+    },
+    Case {
+        name: "equal rows apart from each other",
+        width: 6,
+        height: 4,
+        commands: &[add!(1, 0, 3, 1), add!(1, 2, 3, 4)],
+        list: &[rect!(1, 0, 3, 1), rect!(1, 2, 3, 4)],
+    },
+    Case {
+        name: "three columns, the last one longer",
+        width: 6,
+        height: 4,
+        commands: &[add!(4, 0, 5, 3), add!(0, 0, 1, 2), add!(2, 0, 3, 2)],
+        list: &[
+            rect!(0, 0, 1, 2),
+            rect!(2, 0, 3, 2),
+            rect!(4, 0, 5, 2),
+            rect!(4, 2, 5, 3),
+        ],
+    },
+    Case {
+        name: "carried one column right, over itself",
+        width: 6,
+        height: 4,
+        commands: &[
+            add!(0, 0, 2, 1),
+            add!(3, 0, 4, 1),
+            carry!(0, 0, rect!(1, 0, 5, 1)),
+        ],
+        list: &[rect!(0, 0, 3, 1), rect!(4, 0, 5, 1)],
+    },
+    Case {
+        name: "carried one column left, over itself",
+        width: 6,
+        height: 4,
+        commands: &[
+            add!(1, 0, 2, 1),
+            add!(4, 0, 6, 1),
+            carry!(1, 0, rect!(0, 0, 5, 1)),
+        ],
+        list: &[rect!(0, 0, 1, 1), rect!(3, 0, 6, 1)],
+    },
+    Case {
+        name: "carried one row down, over itself",
+        width: 6,
+        height: 4,
+        commands: &[
+            add!(0, 0, 1, 1),
+            add!(2, 1, 3, 2),
+            carry!(0, 0, rect!(0, 1, 3, 4)),
+        ],
+        list: &[rect!(0, 0, 1, 2), rect!(2, 2, 3, 3)],
+    },
+    Case {
+        name: "carried one row up, over itself",
+        width: 6,
+        height: 4,
+        commands: &[
+            add!(0, 1, 1, 2),
+            add!(2, 3, 3, 4),
+            carry!(0, 1, rect!(0, 0, 3, 3)),
+        ],
+        list: &[rect!(0, 0, 1, 1), rect!(2, 2, 3, 4)],
+    },
+    Case {
+        name: "nothing is left under a destination whose source is empty",
+        width: 6,
+        height: 4,
+        commands: &[add!(4, 2, 6, 4), carry!(0, 0, rect!(4, 2, 6, 4))],
+        list: &[],
     },
 ];
 
-/// Gives one command to an area of `w` by `h` points.
-fn change<A: Area>(
-    rt: &impl Abort,
-    area: &mut A,
-    w: u32,
-    h: u32,
-    command: Command,
-) -> Result<(), AllocError>
-    requires width { (A.points area.old).width ≡ w }
-    requires height { (A.points area.old).height ≡ h }
-    ensures size { SameSize (A.points area.old) (A.points area.new) }
+/// Whether a surface of this size is one that cases are told on.
+fn is_small(w: u32, h: u32) -> bool
+    ensures { OnTrue result (IsSize w h) }
 {
-    match command {
-        Command::Add(r) => {
-            assert!(rt; rect_inside(r, w, h));
-            area.add(r)
-        }
-        Command::Remove(r) => {
-            assert!(rt; rect_inside(r, w, h));
-            area.remove(r)
-        }
-        Command::Move(m) => {
-            assert!(rt; move_inside(m, w, h));
-            area.move_over(m)
-        }
-        Command::Tiles(t) => {
-            assert!(rt; t >= 1);
-            area.tiles(t)
-        }
-    }
+    1 <= w && 1 <= h && w <= 6 && h <= 4
 }
 
-/// Gives each command to bands and to a plane of `w` by `h` points: after each both list the same.
-/// Returns the bands.
-fn change_both(
+/// The list that the commands leave on a surface of `w` by `h` points: both kinds of area tell the
+/// same.
+fn list_of_both(
     rt: &impl Abort,
     alloc: Global,
     w: u32,
     h: u32,
-    commands: &[Command],
+    commands: &[AreaCommand],
     name: &str,
-) -> Result<Bands, AllocError>
+) -> Result<Rects, AllocError>
     requires { IsSize w h }
 {
-    let mut plane = Plane::empty(alloc, w, h)?;
-    let mut bands = Bands::empty(alloc, w, h)?;
-    for command in commands {
-        change(rt, &mut plane, w, h, *command)?;
-        change(rt, &mut bands, w, h, *command)?;
-        let want = plane.list()?;
-        let got = bands.list()?;
-        assert_eq!(rt;
-            got.as_slice(),
-            want.as_slice(),
-            "{name}, after {command:?}"
-        );
-    }
-    Ok(bands)
+    let commands = AreaCommands::from_vec(commands.to_vec(alloc)?);
+    assert!(rt; commands.fit(w, h), "{name}");
+    let want = area_run::<Plane>(alloc, w, h, &commands)?;
+    let got = area_run::<Bands>(alloc, w, h, &commands)?;
+    assert_eq!(rt;
+        got.as_slice(),
+        want.as_slice(),
+        "{name}, after {commands:?}"
+    );
+    Ok(got)
 }
 
 #[test]
 fn cases_leave_their_lists(rt: HostRuntime) -> Result<(), Fail> {
     for case in &CASES {
-        let bands = change_both(&rt, rt.alloc(), 4, 3, case.commands, case.name)?;
-        let list = bands.list()?;
+        assert!(rt; is_small(case.width, case.height), "{}", case.name);
+        let list = list_of_both(
+            &rt,
+            rt.alloc(),
+            case.width,
+            case.height,
+            case.commands,
+            case.name,
+        )?;
         assert_eq!(rt; list.as_slice(), case.list, "{}", case.name);
     }
+    Ok(())
+}
+
+#[test]
+fn a_copy_stands_alone(rt: HostRuntime) -> Result<(), Fail> {
+    let mut area = Bands::empty(rt.alloc(), 4, 3)?;
+    let empty = area.copy()?;
+    area.add(rect!(1, 1, 3, 2))?;
+    assert!(rt; empty.is_empty() && !area.is_empty());
+    let list = area.copy()?.list()?;
+    assert_eq!(rt; list.as_slice(), [rect!(1, 1, 3, 2)].as_slice());
     Ok(())
 }
 
@@ -222,12 +357,12 @@ impl Numbers {
         scroll!(x as i32, y as i32, dest)
     }
 
-    fn command(&mut self) -> Command {
+    fn command(&mut self) -> AreaCommand {
         match self.below(8) {
-            0 | 1 | 2 => Command::Add(self.rect()),
-            3 | 4 => Command::Remove(self.rect()),
-            5 | 6 => Command::Move(self.scroll()),
-            _ => Command::Tiles(1 + self.below(4)),
+            0 | 1 | 2 => AreaCommand::Add(self.rect()),
+            3 | 4 => AreaCommand::Remove(self.rect()),
+            5 | 6 => AreaCommand::MoveOver(self.scroll()),
+            _ => AreaCommand::Tiles(1 + self.below(4)),
         }
     }
 }
@@ -243,8 +378,8 @@ fn random_commands_leave_the_same_lists(rt: HostRuntime) -> Result<(), Fail> {
         let mut commands = Vec::new(rt.alloc());
         for _ in 0..40 {
             commands.push(numbers.command())?;
+            list_of_both(&rt, rt.alloc(), WIDTH, HEIGHT, &commands, "random commands")?;
         }
-        change_both(&rt, rt.alloc(), WIDTH, HEIGHT, &commands, "random commands")?;
     }
     Ok(())
 }
