@@ -2,7 +2,7 @@
 use Rattle.std.proofs.Common.{◌≡◌, ℕ, ◌+◌, ◌-◌, ◌*◌, ◌/◌, ◌%◌, ◌<◌, ◌≤◌, Bool, true, false, ◌&&◌, cond, leb, ltb, eqb, List, length, get_or, sym, ap, ◌∙◌, inl, inr, arith}
 use Rattle.std.proofs.lemmas.Bool.{lt-ltb, le-ltb, le-leb, lt-leb, eqb-true, leb-true, ltb-true, and_from, and_left, and_right, and_parts, cond-true, cond-false, cases_lt}
 use Rattle.std.proofs.lemmas.Bool.Decides.{nat_tests}
-use Rattle.std.proofs.lemmas.Nat.{div-add-mod', mul-add-lt, div-mul-add, row_fits_turned, mul-le}
+use Rattle.std.proofs.lemmas.Nat.{div-add-mod', mul-add-lt, div-mul-add, row_fits_turned}
 use Rattle.std.specs.List.{CopiedTo, SameBelow, SameFrom}
 use Rattle.dd_geom.specs.Rect.{between, place, sides, source_x, source_y}
 use Rattle.dd_geom.specs.Grid.{scrolled, value_at}
@@ -10,7 +10,7 @@ use Rattle.dd_geom.specs.declared.rect.Move.{Move}
 use Rattle.dd_geom.specs.declared.rect.Sides.{Sides}
 use Rattle.dd_geom.proofs.GridLemmas.{column_inside, value_at-place, value_at-cell, grid_from_places}
 use Rattle.dd_geom.proofs.RectLemmas.{and_assoc, IsMoveInside}
-use Rattle.dd_geom.proofs.PaintLemmas.{row_gap, run_places, one_row_more, cond_same}
+use Rattle.dd_geom.proofs.PaintLemmas.{run_places, one_row_more, cond_same}
 
 -- the same for the rows from the last on
 one_row_before :
@@ -152,45 +152,6 @@ module _ {A : Type 0} where
       (λ i t. named w s column row y z i is)
       ∙ (ap (cond (eqb q y && (leb s.left r && ltb r s.right)) (get_or first (at r q) d)) (so_far k d e)
       ∙ one_row_before (leb s.left r && ltb r s.right) q y s.bottom (get_or first (at r q) d) (get_or first k d) up)
-
-  -- whole rows, all at once
-  pub copied_rows :
-      (w h : ℕ) (s : Sides) (row m : ℕ) (old new : List A)
-      → s.left ≡ 0 → s.right ≡ w → s.top ≤ s.bottom → length old ≡ w * h → m ≡ (s.bottom - s.top) * w
-      → IsRunCopied (row * w) (s.top * w) m old new → IsTaken w s (copied_at w s 0 row) old new
-  copied_rows w h s row m old new left right ordered long size copied k d e =
-      let q = k / w in
-      let r = k % w in
-      let place : q * w + r ≡ k = div-add-mod' k w in
-      let across : r < w = column_inside w h k (omega arith) in
-      let from = get_or old (copied_at w s 0 row r q) d in
-      let n : ℕ = s.bottom - s.top in
-      let end : s.bottom ≡ s.top + n = omega arith in
-      let last : s.bottom * w ≡ s.top * w + m = ap (λ b. b * w) end ∙ omega arith in
-      elim (cases_lt q s.top) [
-        | inl above ↦
-            let gap : q * w + w ≤ s.top * w = row_gap q s.top w above in
-            copied.1 k d (omega arith)
-            ∙ sym (cond-false (between s r q) from (get_or old k d)
-            (and_left _ _ (and_right _ _ (lt-leb s.top q above))))
-        | inr below ↦ elim (cases_lt q s.bottom) [
-          | inl inside ↦
-              let gap : q * w + w ≤ s.bottom * w = row_gap q s.bottom w inside in
-              let columns = and_from _ _ (le-leb s.left r (omega arith)) (lt-ltb r s.right (omega arith)) in
-              let t : ℕ = q - s.top in
-              let later : q ≡ s.top + t = omega arith in
-              let rows : q * w ≡ s.top * w + t * w = ap (λ b. b * w) later ∙ omega arith in
-              let source : row * w + (k - s.top * w) ≡ (t + row) * w + (r - s.left + 0) = omega arith in
-              copied.0 k d (omega arith) (omega arith)
-              ∙ (ap (λ i. get_or old i d) source
-              ∙ sym (cond-true (between s r q) from (get_or old k d)
-              (and_from _ _ (and_from _ _ columns (le-leb s.top q below)) (lt-ltb q s.bottom inside))))
-          | inr past ↦
-              let gap : s.bottom * w ≤ q * w = mul-le s.bottom w q w past (omega arith) in
-              copied.2 k d (omega arith)
-              ∙ sym (cond-false (between s r q) from (get_or old k d) (and_right _ _ (le-ltb q s.bottom past)))
-        ]
-      ]
 
   -- the cell that is copied to a point of the destination is the value at its source point
   source_cell :

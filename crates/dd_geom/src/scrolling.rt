@@ -1,11 +1,32 @@
 //! A rectangle of a grid's cells copied to another place of it.
 
 ghost use Rattle.std.specs.Prelude.{◌≡◌, ℕ, ◌+◌, ◌-◌, ◌*◌, ◌≤◌, ◌<◌, length, IsTrue};
+ghost use Rattle.std.specs.List.{CopiedTo, SameBelow, SameFrom};
 ghost use Rattle.dd_geom.specs.Rect.{AreInside, is_move_inside};
 ghost use Rattle.dd_geom.specs.Grid.{scrolled};
 ghost use Rattle.dd_geom.specs.Scrolling.{IsCopied};
 
 use crate::rect::{Move, Sides, index_of, sides_of};
+
+/// Copies a run of cells to another place, which may overlap it: where it doesn't, as one block.
+fn copy_run<T: Copy>(cells: &mut [T], from: usize, size: usize, to: usize)
+    requires source { from + size ≤ length cells.old }
+    requires destination { to + size ≤ length cells.old }
+    ensures length { length cells.new ≡ length cells.old }
+    ensures copied { CopiedTo cells.old cells.new from to size }
+    ensures below { SameBelow cells.old cells.new to }
+    ensures above { SameFrom cells.old cells.new (to + size) }
+{
+    if from + size <= to {
+        let (front, back) = cells.split_at_mut(to);
+        back[..size].copy_from_slice(&front[from..from + size]);
+    } else if to + size <= from {
+        let (front, back) = cells.split_at_mut(from);
+        front[to..to + size].copy_from_slice(&back[..size]);
+    } else {
+        cells.copy_within(from..from + size, to);
+    }
+}
 
 /// Copies the rows one after another from the first on: where the source lies as low as `to`, or
 /// lower, no row is written before it was read.
@@ -27,7 +48,7 @@ fn copy_from_the_top<T: Copy>(
     let size = to.right - to.left;
     for y in to.top..to.bottom {
         let from = (y - to.top + row) * width + column;
-        cells.copy_within(from..from + size, y * width + to.left);
+        copy_run(cells, from, size, y * width + to.left);
     }
 }
 
@@ -51,26 +72,11 @@ fn copy_from_the_bottom<T: Copy>(
     let size = to.right - to.left;
     for y in (to.top..to.bottom).rev() {
         let from = (y - to.top + row) * width + column;
-        cells.copy_within(from..from + size, y * width + to.left);
+        copy_run(cells, from, size, y * width + to.left);
     }
 }
 
-/// Copies whole rows, all at once.
-fn copy_rows<T: Copy>(cells: &mut [T], width: usize, height: usize, to: Sides, row: usize)
-    requires inside { AreInside to width height }
-    requires left { to.left ≡ 0 }
-    requires right { to.right ≡ width }
-    requires down { row + (to.bottom - to.top) ≤ height }
-    requires cells { length cells.old ≡ width * height }
-    ensures { IsCopied width to 0 row cells.old cells.new }
-{
-    let from = row * width;
-    let size = (to.bottom - to.top) * width;
-    cells.copy_within(from..from + size, to.top * width);
-}
-
-/// Copies whole rows at once, and parts of rows in the order in which no row is written before it
-/// was read.
+/// Copies the rows in the order in which none is written before it was read.
 fn copy_between<T: Copy>(
     cells: &mut [T],
     width: usize,
@@ -85,9 +91,7 @@ fn copy_between<T: Copy>(
     requires cells { length cells.old ≡ width * height }
     ensures { IsCopied width to column row cells.old cells.new }
 {
-    if to.left == 0 && to.right == width {
-        copy_rows(cells, width, height, to, row);
-    } else if to.top <= row {
+    if to.top <= row {
         copy_from_the_top(cells, width, height, to, column, row);
     } else {
         copy_from_the_bottom(cells, width, height, to, column, row);

@@ -25,21 +25,8 @@ overflow_add-from-in-loop-y g c =
     omega arith in
     search rules
 
-pub overflow_add-from-in-loop-y-2 : goal.overflow_add-from-in-loop-y-2
-overflow_add-from-in-loop-y-2 g c =
-    let s = c.args.to in
-    let z : ℕ = c.loop-y.y - 1 - s.top + c.args.row in
-    let whole : z * c.args.width + c.args.column + (s.right - s.left) ≤ length c.loop-y.cells =
-    source_fits c.args.width c.args.height z c.args.column (s.right - s.left) (length c.loop-y.cells)
-    (omega arith) (omega arith) (omega arith) in
-    let fits :
-    (c.loop-y.y - 1 - c.args.to.top + c.args.row) * c.args.width + c.args.column + (c.args.to.right - c.args.to.left)
-    ≤ length c.loop-y.cells =
-    omega arith in
-    search rules
-
-pub copy_within-requires-clause-in_bounds : goal.copy_within-requires-clause-in_bounds
-copy_within-requires-clause-in_bounds g c =
+pub copy_run-requires-clause-source : goal.copy_run-requires-clause-source
+copy_run-requires-clause-source g c =
     let s = c.args.to in
     source_fits c.args.width c.args.height (c.loop-y.y - 1 - s.top + c.args.row) c.args.column (s.right - s.left)
     (length c.loop-y.cells)
@@ -51,16 +38,16 @@ loop-y-preserved g c =
     let s = c.args.to in
     let y : ℕ = c.loop-y.y - 1 in
     let z : ℕ = y - s.top + c.args.row in
-    let a : ℕ = z * w + c.args.column in
-    let n : ℕ = (a + (s.right - s.left)) - a in
+    let n : ℕ = s.right - s.left in
     let at = copied_at w s c.args.column c.args.row in
     let later : y + 1 ≡ c.loop-y.y = omega arith in (
       omega arith,
       omega arith,
       copied_before w c.args.height s y z n c.args.column c.args.row c.args.cells.now c.loop-y.cells
-          c.copy_within.new.self
+          c.copy_run.new.cells
           (omega arith) (omega arith) (omega arith) (omega arith) (omega arith) (omega arith) refl
-          (omega arith) (omega arith) c.copy_within.ensures.by_index
+          (omega arith) (omega arith)
+          (c.copy_run.ensures.copied, c.copy_run.ensures.below, c.copy_run.ensures.above)
           (subst (λ (t : ℕ). IsTaken w (record s { top = t }) at c.args.cells.now c.loop-y.cells) (sym later)
           c.loop-y.invariant.2),
     )
