@@ -2,9 +2,7 @@
 use Rattle.std.proofs.Common.{◌≡◌, ℕ, List, ◌++◌, ◌∷◌, [], codes, map, replicate, Some, refl}
 use Rattle.std.specs.Prelude.{option_map, option_and_then}
 use Rattle.std.specs.List.{flat_map}
-use Rattle.std.specs.Fmt.{digits}
 use Rattle.serde_json.specs.Read.{read}
-use Rattle.hex.specs.Hex.{encode_with}
 use Rattle.dd_bits.specs.CanonicalList.{run_end, same_rows, canonical_list}
 use Rattle.dd_bits.specs.Tiles.{tiles}
 use Rattle.dd_coal.specs.Power.{least_power_from, power}
@@ -13,7 +11,7 @@ use Rattle.dd_log.specs.Picture.{picture, presents}
 use Rattle.dd_dup.specs.News.{dirt_of, news_of}
 use Rattle.dd_station.specs.Run.{next, run}
 use Rattle.dd_script.specs.Script.{script_of}
-use Rattle.dd_script.specs.Texts.{line, text}
+use Rattle.dd_script.specs.Texts.{text}
 use Rattle.dd_script.proofs.OnLiterals.{script_on_literals, answers_on_literals}
 use Rattle.dd_prog.specs.declared.reading.TheConstants.{MAX_SCRIPT_BYTES}
 

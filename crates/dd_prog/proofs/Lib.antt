@@ -1,3 +1,4 @@
+pub mod Kept
 pub mod Playing
 pub mod NoInput
 pub mod Examples

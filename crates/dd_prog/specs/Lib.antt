@@ -5,3 +5,4 @@ pub mod Words
 pub mod Exchange
 pub mod Commands
 pub mod Outcome
+pub mod Keeping

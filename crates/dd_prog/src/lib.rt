@@ -4,6 +4,7 @@
 mod arguments;
 mod command;
 mod fault;
+mod keeping;
 mod program;
 mod reading;
 mod replay;

@@ -1,52 +1,58 @@
 //! The run of a script, its answers written one line after another.
 
-ghost use Rattle.std.specs.Prelude.{◌≡◌, ◌+◌, ◌-◌, ◌^◌, ◌≤◌, ◌<◌, length, OnOk};
+ghost use Rattle.std.specs.Prelude.{◌≡◌, ◌+◌, ◌-◌, ◌^◌, ◌≤◌, ◌<◌, length, IfOk, OnOk};
 ghost use Rattle.std.specs.List.{AllByRecursion};
 ghost use Rattle.dd_station.specs.Run.{IsOfClient, next, answers, run};
 ghost use Rattle.dd_script.specs.Script.{IsRunnable};
 ghost use Rattle.dd_script.specs.Texts.{line, text};
 ghost use Rattle.dd_prog.specs.Commands.{work};
 ghost use Rattle.dd_prog.specs.Exchange.{side, IfTold};
+ghost use Rattle.dd_prog.specs.Keeping.{Adds};
 ghost use Rattle.dd_prog.specs.Outcome.{Writes, Ends, Fits, status_of_run, status_of_input};
 
 use crate::command::Command;
 use crate::fault::{InputFault, RunFault};
+use crate::keeping::{put_line, stop, write_kept};
 use crate::reading::read_script;
 use crate::status::Status;
-use dd_io::{Sink, Source, write_all};
-use dd_log::Answer;
-use dd_script::answer_text;
+use dd_io::{OutOfMemory, Sink, Source};
+use dd_script::{Text, answer_text};
 use dd_station::{Script, Station, Step};
 use std::alloc::Global;
 
-/// Writes one answer as a line.
-fn write_answer<K: Sink>(alloc: Global, answer: &Answer, sink: &mut K) -> Result<(), RunFault>
-    ensures wrote { Writes (side K.held K.faults sink.old sink.new) (line answer.now) result }
-    ensures later { K.faults sink.old ≤ K.faults sink.new }
+/// Does one step, and makes the line of its answer.
+fn answered(alloc: Global, station: &mut Station, step: &Step) -> Result<Text, OutOfMemory>
+    requires client { IsOfClient (length station.old.clients) step.now }
+    requires count { station.old.steps < 2 ^ 32 - 1 }
+    ensures line { IfOk result (λ t. t ≡ line (next station.old step.now).0) }
+    ensures state { OnOk result (station.new ≡ (next station.old step.now).1) }
 {
-    let text = answer_text(alloc, answer)?;
-    write_all(sink, text.as_bytes())?;
-    Ok(())
+    let answer = station.step(step)?;
+    answer_text(alloc, &answer)
 }
 
-/// Does one step, and writes its answer.
+/// Does one step, and puts its line behind those that are kept.
 fn play<K: Sink>(
     alloc: Global,
     station: &mut Station,
     step: &Step,
+    kept: &mut Vec<u8>,
     sink: &mut K,
 ) -> Result<(), RunFault>
     requires client { IsOfClient (length station.old.clients) step.now }
     requires count { station.old.steps < 2 ^ 32 - 1 }
-    ensures wrote { Writes (side K.held K.faults sink.old sink.new) (line (next station.old step.now).0) result }
+    ensures adds { Adds (side K.held K.faults sink.old sink.new) kept.old.items kept.new.items
+        (line (next station.old step.now).0) result }
     ensures state { OnOk result (station.new ≡ (next station.old step.now).1) }
     ensures later { K.faults sink.old ≤ K.faults sink.new }
 {
-    let answer = station.step(step)?;
-    write_answer(alloc, &answer, sink)
+    match answered(alloc, station, step) {
+        Ok(text) => put_line(kept, text.as_bytes(), sink),
+        Err(_) => Err(stop(kept, sink)),
+    }
 }
 
-/// Does the steps in order, and writes each answer as it is made.
+/// Does the steps in order, and writes their answers, pieces of them as they are made.
 fn play_all<K: Sink>(
     alloc: Global,
     station: &mut Station,
@@ -58,10 +64,11 @@ fn play_all<K: Sink>(
     ensures wrote { Writes (side K.held K.faults sink.old sink.new) (text (answers station.old steps.now)) result }
     ensures later { K.faults sink.old ≤ K.faults sink.new }
 {
+    let mut kept = Vec::new(alloc);
     for step in steps {
-        play(alloc, station, step, sink)?;
+        play(alloc, station, step, &mut kept, sink)?;
     }
-    Ok(())
+    write_kept(&mut kept, sink)
 }
 
 /// Runs a script, and writes its answers.

@@ -2,12 +2,13 @@
 use Rattle.std.proofs.Common.{ℕ, ◌+◌, ◌<◌, length, sym, ap, subst, arith}
 use Rattle.std.proofs.lemmas.Result.{err_from_is_err_and}
 use Rattle.dd_station.specs.Run.{IsOfClient}
-use Rattle.dd_prog.specs.Exchange.{side}
 use Rattle.dd_prog.proofs.Playing.{so_far_none, so_far_more, so_far_all, of_client_at, stopped}
 use Rattle.dd_prog.proofs.replay.play_all.Goals as goal
 
 pub loop-step-init : goal.loop-step-init
-loop-step-init g c = so_far_none g.K.Sink.held g.K.Sink.faults c.args.sink.now c.args.station.now c.args.steps.now
+loop-step-init g c =
+    so_far_none g.K.Sink.held g.K.Sink.faults c.args.sink.now c.new-kept.result.items c.args.station.now
+    c.args.steps.now c.new-kept.ensures.items
 
 pub play-requires-clause-client : goal.play-requires-clause-client
 play-requires-clause-client g c =
@@ -23,9 +24,10 @@ play-requires-clause-count g c =
 
 pub loop-step-preserved : goal.loop-step-preserved
 loop-step-preserved g c =
-    so_far_more g.K.Sink.held g.K.Sink.faults c.args.sink.now c.loop-step.sink c.play.new.sink c.args.station.now
-    c.loop-step.station c.play.new.station c.args.steps.now c.loop-step.step-index c.step-item.result
-    c.loop-step.invariant c.loop-step-test.true c.step-item.is c.in_ok-play.ensures.wrote c.play.ensures.later
+    so_far_more g.K.Sink.held g.K.Sink.faults c.args.sink.now c.loop-step.sink c.play.new.sink
+    c.loop-step.kept.items c.play.new.kept.items c.args.station.now c.loop-step.station c.play.new.station
+    c.args.steps.now c.loop-step.step-index c.step-item.result
+    c.loop-step.invariant c.loop-step-test.true c.step-item.is c.in_ok-play.ensures.adds c.play.ensures.later
     c.in_ok-play.ensures.state
 
 pub returns-in_err-play-clause-wrote : goal.returns-in_err-play-clause-wrote
@@ -33,10 +35,11 @@ returns-in_err-play-clause-wrote g c =
     let p = err_from_is_err_and c.from_residual.result c.from_residual.ensures.1 in
     rw (p.1, p.2)
     (stopped c.in_err-play.field-0.0 g.K.Sink.held g.K.Sink.faults c.args.sink.now c.loop-step.sink c.play.new.sink
-    c.args.station.now c.loop-step.station c.args.steps.now c.loop-step.step-index c.step-item.result
-    c.loop-step.invariant c.loop-step-test.true c.step-item.is c.in_err-play.ensures.wrote)
+    c.loop-step.kept.items c.args.station.now c.loop-step.station c.args.steps.now c.loop-step.step-index
+    c.step-item.result c.loop-step.invariant c.loop-step-test.true c.step-item.is c.in_err-play.ensures.adds)
 
 pub returns-clause-wrote : goal.returns-clause-wrote
 returns-clause-wrote g c =
-    so_far_all (side g.K.Sink.held g.K.Sink.faults c.args.sink.now c.loop-step.sink) c.args.station.now
-    c.loop-step.station c.args.steps.now c.loop-step.step-index c.loop-step.invariant c.loop-step-test.false
+    so_far_all c.write_kept.result g.K.Sink.held g.K.Sink.faults c.args.sink.now c.loop-step.sink c.write_kept.new.sink
+    c.loop-step.kept.items c.args.station.now c.loop-step.station c.args.steps.now c.loop-step.step-index
+    c.loop-step.invariant c.loop-step-test.false c.write_kept.ensures.wrote
