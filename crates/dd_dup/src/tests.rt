@@ -2,7 +2,10 @@
 //! Every other case of a duplicator is a row of the table of the crate above, whose steps keep what
 //! these calls need.
 
-ghost use Rattle.std.specs.Prelude.{IfOk};
+ghost use Rattle.std.specs.Prelude.{◌≡◌, ◌<◌, ◌≤◌, IfOk, OnOk};
+ghost use Rattle.dd_geom.specs.Rect.{IsSize};
+ghost use Rattle.dd_log.specs.declared.events.TheConstants.{MAX_CAPACITY};
+ghost use Rattle.dd_log.specs.History.{Begins, last_step};
 ghost use Rattle.dd_dup.specs.Stands.{Stands};
 
 use crate::{Dup, DupCall, DupRefusal, frames_are_reached, frames_rebuild, stands_later};
@@ -19,6 +22,21 @@ const MODE: Mode = Mode {
     rotation: Rotation::Identity,
 };
 
+/// The least output.
+const POINT: Mode = Mode {
+    width: 1,
+    height: 1,
+    rotation: Rotation::Identity,
+};
+
+/// Its point.
+const ONE: Rect = Rect {
+    left: 0,
+    top: 0,
+    right: 1,
+    bottom: 1,
+};
+
 const RED: u32 = 0xff_0000;
 
 /// The rectangle that is drawn.
@@ -29,27 +47,20 @@ const DRAWN: Rect = Rect {
     bottom: 2,
 };
 
-/// A red fill.
-fn fill(alloc: Global) -> Result<Ops, Fail> {
-    let mut ops = Ops::new(alloc);
-    ops.push(Op::Fill {
-        rect: DRAWN,
-        colour: RED,
-    })?;
-    Ok(ops)
-}
-
-/// A list with an opening and a present, and the duplicator that was opened.
-fn presented(alloc: Global) -> Result<(Log, Dup), Fail>
-    ensures { IfOk result (λ r. Stands r.1 r.0) }
+/// A list of an output with this mode alone, with an opening, and the duplicator that was opened.
+fn opened(alloc: Global, mode: Mode, capacity: u32) -> Result<(Log, Dup), Fail>
+    requires size { IsSize mode.width mode.height }
+    requires some { 1 ≤ capacity }
+    requires few { capacity ≤ MAX_CAPACITY }
+    ensures stands { IfOk result (λ r. Stands r.1 r.0) }
+    ensures step { IfOk result (λ r. last_step r.0.entries 0 ≡ 0) }
 {
-    let modes = [MODE].to_vec(alloc)?;
+    let modes = [mode].to_vec(alloc)?;
     let spec = Spec {
         modes: Modes::from_vec(modes).ok_or("one mode")?,
-        capacity: 9,
+        capacity,
         privileged: Apps::from_vec(Vec::new(alloc)),
     };
-    let ops = fill(alloc)?;
     let mut log = Log::start(alloc, spec)?;
     let dup = Dup::start(alloc, &log, 0)?;
     log.append(Entry {
@@ -57,11 +68,31 @@ fn presented(alloc: Global) -> Result<(Log, Dup), Fail>
         step: 1,
         event: Event::Opened { slot: 0, app: 7 },
     })?;
+    Ok((log, dup))
+}
+
+/// Appends a present of one red fill.
+fn present(alloc: Global, log: &mut Log, step: u32, rect: Rect) -> Result<(), Fail>
+    requires { last_step log.old.entries 0 < step }
+    ensures begins { OnOk result (Begins log.old log.new) }
+    ensures step { OnOk result (last_step log.new.entries 0 ≡ step) }
+{
+    let mut ops = Ops::new(alloc);
+    ops.push(Op::Fill { rect, colour: RED })?;
     log.append(Entry {
-        actor: 1,
-        step: 2,
+        actor: 0,
+        step,
         event: Event::Draw(Draw::Present(ops)),
     })?;
+    Ok(())
+}
+
+/// A list with an opening and a present, and the duplicator that was opened.
+fn presented(alloc: Global) -> Result<(Log, Dup), Fail>
+    ensures { IfOk result (λ r. Stands r.1 r.0) }
+{
+    let (mut log, dup) = opened(alloc, MODE, 9)?;
+    present(alloc, &mut log, 1, DRAWN)?;
     Ok((log, dup))
 }
 
@@ -104,6 +135,21 @@ fn calls_are_answered(rt: HostRuntime) -> Result<(), Fail> {
     assert!(rt; matches!(&released, Answer::Released));
     let nothing_new = Err(DupRefusal::WaitTimeout);
     assert_eq!(rt; dup.acquire(&log), nothing_new);
+    Ok(())
+}
+
+/// Each acquire of a long list costs what is new, so that all of them end in time.
+#[test]
+fn long_list(rt: HostRuntime) -> Result<(), Fail> {
+    let presents = 400_000;
+    let (mut log, mut dup) = opened(rt.alloc(), POINT, presents + 2)?;
+    for before in 0..presents {
+        present(rt.alloc(), &mut log, before + 1, ONE)?;
+        let info = dup.acquire(&log)?;
+        assert!(rt; info.accumulated == 1);
+        dup.release(&log)?;
+    }
+    assert_eq!(rt; dup.folded(), 400_001);
     Ok(())
 }
 
