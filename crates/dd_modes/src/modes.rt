@@ -70,6 +70,13 @@ fn fit_an_output(modes: &[Mode]) -> bool
     1 <= modes.len() && modes.len() <= MAX_MODES && are_within_limits(modes)
 }
 
+/// The mode with so many modes before it.
+fn found(modes: &[Mode], index: usize) -> Option<Mode>
+    ensures { result ≡ slice_get modes.now index }
+{
+    modes.get(index).copied()
+}
+
 /// The modes of an output: 1 to 16, each within the limits.
 #[derive(Debug, Drop)]
 pub struct Modes {
@@ -124,7 +131,7 @@ impl Modes {
         ensures value { result ≡ slice_get self.now index }
         ensures size { IfSome result (λ mode. IsSize mode.width mode.height) }
     {
-        self.items.get(index as usize).copied()
+        found(self.items.as_slice(), index as usize)
     }
 
     /// The mode that an output begins with.
