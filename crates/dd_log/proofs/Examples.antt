@@ -13,9 +13,9 @@ use Rattle.dd_log.specs.declared.events.Event.TheVariants as events
 use Rattle.dd_log.specs.declared.events.Draw.TheVariants.{Present}
 use Rattle.dd_log.specs.declared.events.TheConstants.{MAX_ACTORS, MAX_CAPACITY, MAX_PRIVILEGED}
 use Rattle.dd_log.specs.declared.desk.TheConstants.{MAX_DUPLICATORS}
-use Rattle.dd_log.specs.Desk.{desk}
-use Rattle.dd_log.specs.History.{History, begun, allowed, refusal, legal, may_add, opens_at}
-use Rattle.dd_log.specs.Picture.{picture, view, presents}
+use Rattle.dd_log.specs.Desk.{desk_of, desk_after, first_desk}
+use Rattle.dd_log.specs.History.{History, begun, desk, allowed, refusal, legal, may_add, opens_at, before_end, ended_by}
+use Rattle.dd_log.specs.Picture.{state_of, picture, view, presents}
 
 abbrev rect : ℕ → ℕ → ℕ → ℕ → Rect
 rect l t r b = record { left = pos l; top = pos t; right = pos r; bottom = pos b }
@@ -38,51 +38,57 @@ abbrev lists : List Entry → History
 lists es = record { spec = spec; entries = es }
 
 two_entries : legal (lists (opening ∷ drawing ∷ [])) ≡ true
-unfolding legal may_add
+unfolding legal may_add desk_of desk_after first_desk
 two_entries = refl
 
 -- the third place is kept for the end
 no_third : legal (lists (opening ∷ drawing ∷ entry 2 2 (events.Draw (Present [])) ∷ [])) ≡ false
-unfolding legal may_add
+unfolding legal may_add desk_of desk_after first_desk
 no_third = refl
 
 -- an actor's steps rise
 same_step : legal (lists (drawing ∷ drawing ∷ [])) ≡ false
-unfolding legal may_add
+unfolding legal may_add desk_of desk_after first_desk
 same_step = refl
 
 -- an application has one slot, and a slot one application
 second_slot : legal (lists (opening ∷ entry 1 2 (Opened 1 7) ∷ [])) ≡ false
-unfolding legal may_add
+unfolding legal may_add desk_of desk_after first_desk
 second_slot = refl
 
 taken_slot : legal (lists (opening ∷ entry 1 2 (Opened 0 8) ∷ [])) ≡ false
-unfolding legal may_add
+unfolding legal may_add desk_of desk_after first_desk
 taken_slot = refl
 
-slots_then : (desk (opening ∷ drawing ∷ [])).slots ≡ Some 7 ∷ None ∷ None ∷ None ∷ []
+slots_then : (desk (lists (opening ∷ drawing ∷ []))).slots ≡ Some 7 ∷ None ∷ None ∷ None ∷ []
+unfolding desk_of desk_after first_desk
 slots_then = refl
 
 -- a full list says so first, whatever is drawn
 full : allowed (lists (opening ∷ drawing ∷ [])) (Present (Fill (rect 3 0 5 1) 7 ∷ [])) ≡ Some Full
+unfolding desk_of desk_after first_desk
 full = refl
 
 full_for_openings : refusal (lists (opening ∷ drawing ∷ [])) (Opened 1 8) ≡ Some Full
+unfolding desk_of desk_after first_desk
 full_for_openings = refl
 
 -- one column past the right side
 outside : allowed (begun spec) (Present (Fill (rect 3 0 5 1) 7 ∷ [])) ≡ Some (BadRect 0)
+unfolding desk_of desk_after first_desk
 outside = refl
 
 second_outside : allowed (begun spec) (Present (Fill (rect 1 1 3 2) 7 ∷ Fill (rect 3 0 5 1) 7 ∷ Fill (rect 3 0 5 1) 7 ∷ [])) ≡ Some (BadRect 1)
+unfolding desk_of desk_after first_desk
 second_outside = refl
 
 nothing_drawn : allowed (begun spec) (Present []) ≡ None
+unfolding desk_of desk_after first_desk
 nothing_drawn = refl
 
 -- what is seen of the desk
 seen_rows : rows (view (lists (opening ∷ drawing ∷ []))) ≡ (0 ∷ 0 ∷ 0 ∷ 0 ∷ []) ∷ (0 ∷ 16711680 ∷ 16711680 ∷ 0 ∷ []) ∷ (0 ∷ 0 ∷ 0 ∷ 0 ∷ []) ∷ []
-unfolding picture
+unfolding picture state_of desk_after first_desk
 seen_rows = refl
 
 drawn_presents : presents (opening ∷ drawing ∷ []) ≡ (Fill (rect 1 1 3 2) 16711680 ∷ []) ∷ []

@@ -8,7 +8,7 @@ use Rattle.std.proofs.lemmas.List.{take-append-drop, length_push}
 use Rattle.std.proofs.lemmas.List.Folds.{position_or_len_push}
 use Rattle.std.proofs.lemmas.List.Sums.{fold_push}
 use Rattle.std.proofs.lemmas.Option.{slice_get_within}
-use Rattle.std.proofs.Math.Bool.{and-true}
+use Rattle.std.proofs.Math.Bool.{and-true, and-false}
 use Rattle.std.proofs.Math.ListN.{get_or-eq_default}
 use Rattle.std.proofs.Math.Logic.{⊎_elim}
 use Rattle.dd_modes.specs.declared.modes.Mode.{Mode}
@@ -28,7 +28,7 @@ use Rattle.dd_log.specs.declared.events.TheConstants.{MAX_ACTORS}
 use Rattle.dd_log.specs.declared.desk.Desk.{Desk}
 use Rattle.dd_log.specs.Events.{operations_of, present_of, is_end, any_ends}
 use Rattle.dd_log.specs.Desk.{desk_of, desk_after, first_desk, finds_slot, is_free, is_taken}
-use Rattle.dd_log.specs.History.{History, begun, with_entry, first_entries, desk, desk_mode, last_step, is_full, before_end, bad_rect, bad_draw, bad_event, present_fits, event_fits, refusal, may_add, legal_after, legal, BeginningIsLegal, LegalByEntries, EndIsLast}
+use Rattle.dd_log.specs.History.{History, begun, with_entry, first_entries, desk, desk_mode, last_step, is_full, before_end, bad_rect, bad_draw, bad_event, present_fits, event_fits, refusal, may_add, legal_after, legal, end_of, BeginningIsLegal, LegalByEntries, EndIsLast}
 use Rattle.dd_log.proofs.Snoc.{by_snoc}
 use Rattle.dd_log.proofs.Desks.{desk-push, ended-push, ended_tells, step_tells, len_of_steps}
 
@@ -51,6 +51,19 @@ pub may_add_of_parts : (h : History) (e : Entry) → MayAdd h e → may_add h e 
 unfolding may_add
 may_add_of_parts h e p =
     and_from _ _ (and_from _ _ (and_from _ _ (lt-ltb _ _ p.actor) (lt-ltb _ _ p.step)) p.allowed) p.slot
+
+-- the end of a list that goes on
+pub may_end : (h : History) (actor step : ℕ) → (desk h).ended ≡ false → actor < MAX_ACTORS
+    → last_step h.entries actor < step → may_add h (end_of actor step) ≡ true
+may_end h actor step going within past =
+    let refused : refusal h End ≡ (if is_full h && false then Some Full else None) = cond-false (desk h).ended _ _ going in
+    may_add_of_parts h (end_of actor step)
+    (record {
+      actor = within;
+      step = past;
+      allowed = ap is_none refused ∙ ap (λ (b : Bool). is_none (if b then Some Full else None)) (and-false (is_full h));
+      slot = refl;
+    })
 
 -- what an event that no cause refuses has
 pub record Allowed (h : History) (e : Event) : Type 0 where
@@ -159,6 +172,13 @@ legal_room h t some =
     let more = kept_more (is_end e.event) (length es) h.spec.capacity room s.allowed.room in
     subst (λ (b : Bool). length (es ++ e ∷ []) + kept_place b ≤ h.spec.capacity) (sym (end_of_push h.spec es e s))
     (omega (arith, length_push es e, more))) h.entries t
+
+-- an entry that may be added finds a place
+pub room_before : (h : History) (e : Entry) → legal h ≡ true → 1 ≤ h.spec.capacity → may_add h e ≡ true
+    → length h.entries + 1 ≤ h.spec.capacity
+room_before h e t some may =
+    subst (λ (b : Bool). length h.entries + kept_place b ≤ h.spec.capacity)
+    (allowed_by h e.event (parts_of_may_add h e may).allowed).going (legal_room h t some)
 
 -- nothing follows the end
 abbrev ends_at : Bool → ℕ → ℕ

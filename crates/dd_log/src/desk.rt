@@ -151,6 +151,7 @@ fn change_slot(slots: &mut [Option<u32>; MAX_DUPLICATORS], event: &Event)
 
 impl Desk {
     /// The desk of an empty list.
+    #[tactic(auto, unfolding(crate::specs::Desk::first_desk))]
     pub(crate) fn first(modes: &Modes) -> Desk
         ensures value { result ≡ first_desk modes.now }
         ensures size { IsSize result.mode.width result.mode.height }
@@ -170,6 +171,7 @@ impl Desk {
     }
 
     /// Goes on by one entry.
+    #[tactic(auto, unfolding(crate::specs::Desk::desk_after))]
     pub(crate) fn follow(&mut self, modes: &Modes, entry: &Entry)
         requires few { self.old.len < MAX_CAPACITY }
         requires actor { entry.now.actor < MAX_ACTORS }
