@@ -1,16 +1,18 @@
--- Small lists of a surface of 4 by 3 points with three places: which are legal, and what their desks show.
+-- Small lists: which are legal, why an event is refused, and what their desks are and show.
 use Rattle.std.proofs.Common.{◌≡◌, ℕ, true, false, pos, List, [], ◌∷◌, Some, None, refl}
 use Rattle.dd_geom.specs.declared.rect.Rect.{Rect}
 use Rattle.dd_geom.specs.Grid.{rows}
 use Rattle.dd_modes.specs.declared.modes.Rotation.TheVariants.{Identity}
 use Rattle.dd_ops.specs.declared.operations.Op.TheVariants.{Fill}
-use Rattle.dd_log.specs.declared.answers.LogRefusal.TheVariants.{Full, BadRect}
+use Rattle.dd_log.specs.declared.answers.LogRefusal.TheVariants.{Ended, Full, BadMode, BadRect}
 use Rattle.dd_log.specs.declared.events.Spec.{Spec}
 use Rattle.dd_log.specs.declared.events.Entry.{Entry}
 use Rattle.dd_log.specs.declared.events.Event.{Event}
-use Rattle.dd_log.specs.declared.events.Event.TheVariants.{Opened}
+use Rattle.dd_log.specs.declared.events.Event.TheVariants.{Opened, Closed, End}
 use Rattle.dd_log.specs.declared.events.Event.TheVariants as events
-use Rattle.dd_log.specs.declared.events.Draw.TheVariants.{Present}
+use Rattle.dd_log.specs.declared.events.Draw.{Draw}
+use Rattle.dd_log.specs.declared.events.Draw.TheVariants.{Present, Switch, Disconnect, Reconnect}
+use Rattle.dd_log.specs.declared.events.Draw.TheVariants as drawings
 use Rattle.dd_log.specs.declared.events.TheConstants.{MAX_ACTORS, MAX_CAPACITY, MAX_PRIVILEGED}
 use Rattle.dd_log.specs.declared.desk.TheConstants.{MAX_DUPLICATORS}
 use Rattle.dd_log.specs.Desk.{desk_of, desk_after, first_desk}
@@ -104,6 +106,98 @@ opens_no_drawing = refl
 
 opens_no_third : opens_at (lists (opening ∷ drawing ∷ [])) 2 ≡ false
 opens_no_third = refl
+
+-- two modes, and four places
+abbrev two_modes : List Entry → History
+two_modes es =
+    record {
+      spec = record {
+        modes = record { width = 4; height = 3; rotation = Identity }
+            ∷ record { width = 2; height = 1; rotation = Identity }
+            ∷ [];
+        capacity = 4;
+        privileged = [];
+      };
+      entries = es;
+    }
+
+abbrev draws : ℕ → Draw → Entry
+draws step drawing = entry 2 step (events.Draw drawing)
+
+-- a mode change begins a black picture of the new size
+new_mode : rows (view (two_modes (drawing ∷ draws 2 (drawings.Mode 1) ∷ []))) ≡ (0 ∷ 0 ∷ []) ∷ []
+unfolding picture state_of desk_after first_desk
+new_mode = refl
+
+-- and a switch one of the old size, on which the next present draws
+drawn_again : rows (view (two_modes (draws 1 (drawings.Mode 1) ∷ draws 2 (Switch true) ∷ draws 3 (Present (Fill (rect 1 0 2 1) 7 ∷ [])) ∷ []))) ≡ (0 ∷ 7 ∷ []) ∷ []
+unfolding picture state_of desk_after first_desk
+drawn_again = refl
+
+-- a mode change keeps the secure desktop, and a switch to another leaves it
+still_secure : (desk (two_modes (draws 1 (Switch true) ∷ draws 2 (drawings.Mode 0) ∷ []))).secure ≡ true
+unfolding desk_of desk_after first_desk
+still_secure = refl
+
+left_secure : (desk (two_modes (draws 1 (Switch true) ∷ draws 2 (Switch false) ∷ []))).secure ≡ false
+unfolding desk_of desk_after first_desk
+left_secure = refl
+
+connected_again : (desk (two_modes (draws 1 Disconnect ∷ draws 2 Reconnect ∷ []))).connected ≡ true
+unfolding desk_of desk_after first_desk
+connected_again = refl
+
+-- a disconnect loses duplicators and begins no picture; a reconnect does neither
+places_then : (desk (two_modes (draws 1 (Switch true) ∷ draws 2 Disconnect ∷ draws 3 Reconnect ∷ []))).picture_start ≡ 1
+unfolding desk_of desk_after first_desk
+places_then = refl
+
+cut_off_then : (desk (two_modes (draws 1 (Switch true) ∷ draws 2 Disconnect ∷ draws 3 Reconnect ∷ []))).cut_off ≡ 2
+unfolding desk_of desk_after first_desk
+cut_off_then = refl
+
+-- a closing frees its slot, and the application may open again
+closed_slot : legal (two_modes (opening ∷ entry 1 2 (Closed 0) ∷ entry 1 3 (Opened 0 7) ∷ [])) ≡ true
+unfolding legal may_add desk_of desk_after first_desk
+closed_slot = refl
+
+no_closing : legal (two_modes (entry 1 1 (Closed 0) ∷ [])) ≡ false
+unfolding legal may_add desk_of desk_after first_desk
+no_closing = refl
+
+-- the end has the kept place, and nothing follows it
+ended_full : legal (two_modes (opening ∷ drawing ∷ draws 2 (Present []) ∷ entry 3 1 End ∷ [])) ≡ true
+unfolding legal may_add desk_of desk_after first_desk
+ended_full = refl
+
+no_second_end : legal (two_modes (entry 3 1 End ∷ entry 3 2 End ∷ [])) ≡ false
+unfolding legal may_add desk_of desk_after first_desk
+no_second_end = refl
+
+before_its_end : before_end (opening ∷ drawing ∷ entry 3 1 End ∷ []) ≡ 2
+before_its_end = refl
+
+-- of two causes that stand together the first is told
+ended_and_full : allowed (lists (opening ∷ drawing ∷ entry 3 1 End ∷ [])) Reconnect ≡ Some Ended
+unfolding desk_of desk_after first_desk
+ended_and_full = refl
+
+ended_and_bad_mode : allowed (lists (entry 3 1 End ∷ [])) (drawings.Mode 1) ≡ Some Ended
+unfolding desk_of desk_after first_desk
+ended_and_bad_mode = refl
+
+full_and_bad_mode : allowed (lists (opening ∷ drawing ∷ [])) (drawings.Mode 1) ≡ Some Full
+unfolding desk_of desk_after first_desk
+full_and_bad_mode = refl
+
+no_such_mode : allowed (two_modes []) (drawings.Mode 2) ≡ Some BadMode
+unfolding desk_of desk_after first_desk
+no_such_mode = refl
+
+-- an operation has to fit the mode that stands
+outside_now : allowed (two_modes (draws 1 (drawings.Mode 1) ∷ [])) (Present (Fill (rect 1 1 3 2) 7 ∷ [])) ≡ Some (BadRect 0)
+unfolding desk_of desk_after first_desk
+outside_now = refl
 
 -- the limits
 most_actors : MAX_ACTORS ≡ 64

@@ -28,7 +28,7 @@ use Rattle.dd_log.specs.declared.events.TheConstants.{MAX_ACTORS}
 use Rattle.dd_log.specs.declared.desk.Desk.{Desk}
 use Rattle.dd_log.specs.Events.{operations_of, present_of, is_end, any_ends}
 use Rattle.dd_log.specs.Desk.{desk_of, desk_after, first_desk, finds_slot, is_free, is_taken}
-use Rattle.dd_log.specs.History.{History, begun, with_entry, first_entries, desk, desk_mode, last_step, is_full, before_end, bad_rect, bad_draw, bad_event, present_fits, event_fits, refusal, may_add, legal_after, legal, end_of, BeginningIsLegal, LegalByEntries, EndIsLast}
+use Rattle.dd_log.specs.History.{History, begun, with_entry, first_entries, desk, desk_mode, last_step, is_full, before_end, bad_rect, bad_draw, bad_event, present_fits, event_fits, refusal, may_add, legal_after, legal, end_of, BeginningIsLegal, LegalByEntries, LegalHasRoom, EndIsLast, BeforeEndCounts}
 use Rattle.dd_log.proofs.Snoc.{by_snoc}
 use Rattle.dd_log.proofs.Desks.{desk-push, ended-push, ended_tells, step_tells, len_of_steps}
 
@@ -180,6 +180,12 @@ room_before h e t some may =
     subst (λ (b : Bool). length h.entries + kept_place b ≤ h.spec.capacity)
     (allowed_by h e.event (parts_of_may_add h e may).allowed).going (legal_room h t some)
 
+pub has_room : LegalHasRoom
+has_room h t some =
+    let room = legal_room h t some in
+    (omega (arith, room), λ (going : (desk h).ended ≡ false).
+    subst (λ (b : Bool). length h.entries + kept_place b ≤ h.spec.capacity) going room)
+
 -- nothing follows the end
 abbrev ends_at : Bool → ℕ → ℕ
 ends_at ended n = if ended then n + 1 else n
@@ -208,6 +214,18 @@ legal_ends h t =
 
 pub end_last : EndIsLast
 end_last h = (ended_tells h.spec.modes h.entries, legal_ends h)
+
+counts_more : (ends : Bool) (n before : ℕ) → n ≡ before → n + cond ends 0 1 ≡ (if ends then before else before + 1)
+counts_more true n before is = omega arith
+counts_more false n before is = omega arith
+
+pub before_counts : BeforeEndCounts
+before_counts h e t =
+    let before = legal_before h e t in
+    let going = (allowed_by h e.event (parts_of_may_add h e before.1).allowed).going in
+    let all : length h.entries ≡ before_end h.entries =
+    subst (λ (b : Bool). length h.entries ≡ ends_at b (before_end h.entries)) going (legal_ends h before.0) in
+    before_push h.entries e all ∙ counts_more (is_end e.event) (length h.entries) (before_end h.entries) all
 
 -- an actor past the last has no step
 other_step : (actor at step last : ℕ) → actor < MAX_ACTORS → MAX_ACTORS ≤ at → last ≡ 0

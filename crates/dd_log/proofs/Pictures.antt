@@ -1,7 +1,7 @@
 -- The picture after one entry more, and where the last one begins.
 use Rattle.std.proofs.Common.{◌≡◌, ℕ, ◌+◌, ◌<◌, ◌≤◌, Bool, cond, true, false, List, [], ◌∷◌, ◌++◌, length, take, drop, Option, None, sym, ap, subst, ◌∙◌, refl, arith}
 use Rattle.std.specs.List.{list_all, list_any, fold}
-use Rattle.std.proofs.lemmas.Bool.{and_from, or_parts, cases_lt, le-ltb, cond-true, cond-false}
+use Rattle.std.proofs.lemmas.Bool.{and_from, or_from, or_parts, cases_lt, le-ltb, cond-true, cond-false}
 use Rattle.std.proofs.lemmas.List.{drop-append-le, take-append-le, length_push}
 use Rattle.std.proofs.lemmas.List.Folds.{list_all-append}
 use Rattle.std.proofs.lemmas.List.Sums.{fold_push}
@@ -19,7 +19,7 @@ use Rattle.dd_log.specs.declared.events.Draw.{Draw}
 use Rattle.dd_log.specs.declared.events.Draw.TheVariants.{Present, Switch, Disconnect, Reconnect}
 use Rattle.dd_log.specs.declared.events.Draw.TheVariants as drawings
 use Rattle.dd_log.specs.declared.events.Spec.{Spec}
-use Rattle.dd_log.specs.Events.{draws_anew, begins_picture, any_begins}
+use Rattle.dd_log.specs.Events.{draws_anew, begins_picture, loses, cuts_off, any_begins, any_cuts_off}
 use Rattle.dd_log.specs.Desk.{first_desk, desk_after, desk_of, mode_drawn, mode_after}
 use Rattle.dd_log.specs.History.{History, first_entries, desk, desk_mode, entries_fit, event_fits, legal}
 use Rattle.dd_log.specs.Picture.{State, first_state, state_after, state_of, picture, picture_after, shown, shown_after, blank, GoesOn, PictureGoesOn, BeginsBlack, PictureBegins, PictureSinceStart}
@@ -67,6 +67,26 @@ mode_kept ms old (events.Draw d) n = mode_kept_by ms old d n
 mode_kept ms old (Opened slot app) n = refl
 mode_kept ms old (Closed slot) n = refl
 mode_kept ms old End n = refl
+
+-- what begins a picture loses duplicators
+anew_loses : (d : Draw) → loses d ≡ false → draws_anew d ≡ false
+anew_loses (Present ops) n = refl
+anew_loses (drawings.Mode index) n = n
+anew_loses (Switch secure) n = n
+anew_loses Disconnect n = refl
+anew_loses Reconnect n = refl
+
+pub begins_loses : (e : Event) → cuts_off e ≡ false → begins_picture e ≡ false
+begins_loses (events.Draw d) n = anew_loses d n
+begins_loses (Opened slot app) n = refl
+begins_loses (Closed slot) n = refl
+begins_loses End n = refl
+
+pub none_begins : (es : List Entry) → any_cuts_off es ≡ false → any_begins es ≡ false
+none_begins [] none = refl
+none_begins (e ∷ es) none =
+    let both = or_parts (cuts_off e.event) (any_cuts_off es) none in
+    or_from _ _ (begins_loses e.event both.0) (none_begins es both.1)
 
 -- from the end on, all goes on
 first_all : (spec : Spec) (es : List Entry) (place : ℕ) → length es ≤ place

@@ -147,3 +147,15 @@ EndIsLast =
     (h : History)
     → ((desk h).ended ≡ any_ends h.entries)
     × (legal h ≡ true → length h.entries ≡ (if (desk h).ended then before_end h.entries + 1 else before_end h.entries))
+
+-- each entry but the end is one more before the end
+abbrev pub BeforeEndCounts : Type 0
+BeforeEndCounts =
+    (h : History) (e : Entry) → legal (with_entry h e) ≡ true
+    → before_end (with_entry h e).entries ≡ (if is_end e.event then before_end h.entries else before_end h.entries + 1)
+
+-- a legal list has at most as many entries as its capacity says, and a place is left until it has ended
+abbrev pub LegalHasRoom : Type 0
+LegalHasRoom =
+    (h : History) → legal h ≡ true → 1 ≤ h.spec.capacity
+    → (length h.entries ≤ h.spec.capacity) × ((desk h).ended ≡ false → length h.entries + 1 ≤ h.spec.capacity)

@@ -1,6 +1,6 @@
 //! What legal lists are and show: laws, with nothing to run.
 
-ghost use Rattle.dd_log.specs.History.{BeginningIsLegal, LegalByEntries, EndIsLast};
+ghost use Rattle.dd_log.specs.History.{BeginningIsLegal, LegalByEntries, LegalHasRoom, EndIsLast, BeforeEndCounts};
 ghost use Rattle.dd_log.specs.Picture.{LegalIsShown, PictureGoesOn, PictureBegins, PictureSinceStart};
 
 /// Of a legal list, in modes of a size that surfaces have, the desk's picture is a picture, and what
@@ -23,6 +23,17 @@ pub fn legal_by_entries()
 /// before it.
 pub fn end_is_last()
     ensures { EndIsLast }
+{}
+
+/// Each entry but the end is one more before the end.
+pub fn before_end_counts()
+    ensures { BeforeEndCounts }
+{}
+
+/// A legal list has at most as many entries as its capacity says, and a place is left until it has
+/// ended.
+pub fn legal_has_room()
+    ensures { LegalHasRoom }
 {}
 
 /// From a place after which no picture begins, the desk's picture is drawn on the one before.

@@ -14,8 +14,8 @@ pub use answers::{Answer, CloseRefusal, DupRefusal, FrameInfo, LogRefusal, OpenR
 pub use desk::{Desk, MAX_DUPLICATORS};
 pub use events::{Draw, Entry, Event, MAX_ACTORS, MAX_CAPACITY, MAX_PRIVILEGED, Spec};
 pub use laws::{
-    beginning_is_legal, end_is_last, legal_by_entries, legal_is_shown, picture_begins,
-    picture_goes_on, picture_since_start,
+    before_end_counts, beginning_is_legal, end_is_last, legal_by_entries, legal_has_room,
+    legal_is_shown, picture_begins, picture_goes_on, picture_since_start,
 };
 pub use lists::{Apps, Rows};
 pub use log::Log;

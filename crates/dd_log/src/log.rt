@@ -186,8 +186,9 @@ impl Log {
     pub fn len(&self) -> u64
         ensures len { result ≡ length self.now.entries }
         ensures legal { IsTrue (legal self.now) }
-        ensures few { length self.now.entries ≤ MAX_CAPACITY }
         ensures within { length self.now.entries ≤ self.now.spec.capacity }
+        ensures capacity { self.now.spec.capacity ≤ MAX_CAPACITY }
+        ensures few { length self.now.entries ≤ MAX_CAPACITY }
     {
         self.entries.len() as u64
     }
