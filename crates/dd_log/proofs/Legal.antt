@@ -182,9 +182,11 @@ room_before h e t some may =
 
 pub has_room : LegalHasRoom
 has_room h t some =
-    let room = legal_room h t some in
-    (omega (arith, room), λ (going : (desk h).ended ≡ false).
-    subst (λ (b : Bool). length h.entries + kept_place b ≤ h.spec.capacity) going room)
+    let room = legal_room h t some in (
+      omega (arith, room),
+      λ (going : (desk h).ended ≡ false).
+          subst (λ (b : Bool). length h.entries + kept_place b ≤ h.spec.capacity) going room,
+    )
 
 -- nothing follows the end
 abbrev ends_at : Bool → ℕ → ℕ
