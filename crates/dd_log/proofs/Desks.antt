@@ -1,7 +1,6 @@
 -- The desk after one entry more, part by part, and what its parts tell of the entries.
-use Rattle.std.proofs.Common.{◌≡◌, ℕ, ◌+◌, ◌<◌, ◌≤◌, Bool, cond, true, false, ◌||◌, List, [], ◌∷◌, ◌++◌, length, drop, replicate, Option, get_or, set, nat_lt, eqb, sym, ap, ◌∙◌, refl, arith, if◌then◌else◌, ◌==◌}
+use Rattle.std.proofs.Common.{◌≡◌, ℕ, ◌+◌, ◌<◌, ◌||◌, List, [], ◌∷◌, ◌++◌, length, drop, get_or, set, nat_lt, eqb, sym, ap, ◌∙◌, refl, arith, if◌then◌else◌, ◌==◌}
 use Rattle.std.specs.Prelude.{slice_index_or}
-use Rattle.std.specs.List.{list_any, fold}
 use Rattle.std.proofs.lemmas.Bool.{cases_eq, eq-eqb, ne_eqb, cond-true, cond-false}
 use Rattle.std.proofs.lemmas.List.{get_or-set_same, get_or-set_other, get_or-replicate, length-set, length-replicate, length_push}
 use Rattle.std.proofs.lemmas.List.Sums.{fold_push}
@@ -10,7 +9,7 @@ use Rattle.dd_modes.specs.declared.modes.Mode.{Mode}
 use Rattle.dd_log.specs.declared.desk.Desk.{Desk}
 use Rattle.dd_log.specs.declared.events.Entry.{Entry}
 use Rattle.dd_log.specs.declared.events.TheConstants.{MAX_ACTORS}
-use Rattle.dd_log.specs.Events.{begins_picture, cuts_off, is_present, is_end, any_begins, any_cuts_off, any_presents, any_ends}
+use Rattle.dd_log.specs.Events.{begins_picture, cuts_off, is_present, is_end, any_cuts_off, any_presents, any_ends}
 use Rattle.dd_log.specs.Desk.{first_desk, desk_after, desk_of, mode_after, secure_after, connected_after, slots_after, place_after}
 use Rattle.dd_log.specs.History.{last_step}
 use Rattle.dd_log.proofs.Snoc.{by_snoc, any_push, Marks, Tells, tells}

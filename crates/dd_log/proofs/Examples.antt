@@ -16,7 +16,7 @@ use Rattle.dd_log.specs.declared.events.Draw.TheVariants as drawings
 use Rattle.dd_log.specs.declared.events.TheConstants.{MAX_ACTORS, MAX_CAPACITY, MAX_PRIVILEGED}
 use Rattle.dd_log.specs.declared.desk.TheConstants.{MAX_DUPLICATORS}
 use Rattle.dd_log.specs.Desk.{desk_of, desk_after, first_desk}
-use Rattle.dd_log.specs.History.{History, begun, desk, allowed, refusal, legal, may_add, opens_at, before_end, ended_by}
+use Rattle.dd_log.specs.History.{History, begun, desk, allowed, refusal, legal, may_add, opens_at, before_end}
 use Rattle.dd_log.specs.Picture.{state_of, picture, view, presents}
 
 abbrev rect : ℕ → ℕ → ℕ → ℕ → Rect

@@ -1,9 +1,9 @@
 -- Legal lists: what a test of one entry more says, and what such an entry makes of the list.
-use Rattle.std.proofs.Common.{◌≡◌, ℕ, zero, suc, ◌+◌, ◌<◌, ◌≤◌, Bool, cond, true, false, ◌&&◌, ◌||◌, not, List, [], ◌∷◌, ◌++◌, length, take, drop, Option, Some, None, nat_lt, eqb, slice_get, sym, ap, subst, ◌∙◌, refl, append_assoc, append-nil, arith, if◌then◌else◌, ◌==◌}
+use Rattle.std.proofs.Common.{◌≡◌, ℕ, ◌+◌, ◌<◌, ◌≤◌, Bool, cond, true, false, ◌&&◌, ◌||◌, not, List, [], ◌∷◌, ◌++◌, length, take, drop, Option, Some, None, nat_lt, eqb, slice_get, sym, ap, subst, ◌∙◌, refl, append_assoc, append-nil, arith, if◌then◌else◌, ◌==◌}
 use Rattle.std.specs.Prelude.{is_none, slice_index_or}
 use Rattle.std.specs.List.{list_all, position_or_len}
 use Rattle.std.specs.Prelude.{option_map}
-use Rattle.std.proofs.lemmas.Bool.{and_parts, and_from, or_parts, cases_lt, false≢true, ltb-true, lt-ltb, leb-false, ltb-false, not-false, cond-false, eq-eqb, ne_eqb}
+use Rattle.std.proofs.lemmas.Bool.{and_parts, and_from, cases_lt, false≢true, ltb-true, lt-ltb, leb-false, ltb-false, cond-false, eq-eqb, ne_eqb}
 use Rattle.std.proofs.lemmas.List.{take-append-drop, length_push}
 use Rattle.std.proofs.lemmas.List.Folds.{position_or_len_push}
 use Rattle.std.proofs.lemmas.List.Sums.{fold_push}
@@ -15,7 +15,7 @@ use Rattle.dd_modes.specs.declared.modes.Mode.{Mode}
 use Rattle.dd_ops.specs.declared.operations.Op.{Op}
 use Rattle.dd_ops.specs.Operations.{fits}
 use Rattle.dd_log.specs.declared.answers.LogRefusal.{LogRefusal}
-use Rattle.dd_log.specs.declared.answers.LogRefusal.TheVariants.{Ended, Full, BadMode, BadRect}
+use Rattle.dd_log.specs.declared.answers.LogRefusal.TheVariants.{Ended, Full, BadRect}
 use Rattle.dd_log.specs.declared.events.Entry.{Entry}
 use Rattle.dd_log.specs.declared.events.Event.{Event}
 use Rattle.dd_log.specs.declared.events.Event.TheVariants.{Opened, Closed, End}
@@ -25,12 +25,11 @@ use Rattle.dd_log.specs.declared.events.Draw.TheVariants.{Present, Switch, Disco
 use Rattle.dd_log.specs.declared.events.Draw.TheVariants as drawings
 use Rattle.dd_log.specs.declared.events.Spec.{Spec}
 use Rattle.dd_log.specs.declared.events.TheConstants.{MAX_ACTORS}
-use Rattle.dd_log.specs.declared.desk.Desk.{Desk}
-use Rattle.dd_log.specs.Events.{operations_of, present_of, is_end, any_ends}
-use Rattle.dd_log.specs.Desk.{desk_of, desk_after, first_desk, finds_slot, is_free, is_taken}
-use Rattle.dd_log.specs.History.{History, begun, with_entry, first_entries, desk, desk_mode, last_step, is_full, before_end, bad_rect, bad_draw, bad_event, present_fits, event_fits, refusal, may_add, legal_after, legal, end_of, BeginningIsLegal, LegalByEntries, LegalHasRoom, EndIsLast, BeforeEndCounts}
+use Rattle.dd_log.specs.Events.{operations_of, is_end}
+use Rattle.dd_log.specs.Desk.{desk_of, first_desk, finds_slot, is_free}
+use Rattle.dd_log.specs.History.{History, with_entry, desk, desk_mode, last_step, is_full, before_end, bad_rect, bad_draw, bad_event, present_fits, event_fits, refusal, may_add, legal_after, legal, end_of, BeginningIsLegal, LegalByEntries, LegalHasRoom, EndIsLast, BeforeEndCounts}
 use Rattle.dd_log.proofs.Snoc.{by_snoc}
-use Rattle.dd_log.proofs.Desks.{desk-push, ended-push, ended_tells, step_tells, len_of_steps}
+use Rattle.dd_log.proofs.Desks.{ended-push, ended_tells, step_tells, len_of_steps}
 
 -- what the test of one entry more asks
 pub record MayAdd (h : History) (e : Entry) : Type 0 where

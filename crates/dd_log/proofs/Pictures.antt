@@ -1,6 +1,6 @@
 -- The picture after one entry more, and where the last one begins.
-use Rattle.std.proofs.Common.{◌≡◌, ℕ, ◌+◌, ◌<◌, ◌≤◌, Bool, cond, true, false, List, [], ◌∷◌, ◌++◌, length, take, drop, Option, None, sym, ap, subst, ◌∙◌, refl, arith}
-use Rattle.std.specs.List.{list_all, list_any, fold}
+use Rattle.std.proofs.Common.{◌≡◌, ℕ, ◌+◌, ◌<◌, ◌≤◌, Bool, true, false, List, [], ◌∷◌, ◌++◌, length, drop, sym, ap, subst, ◌∙◌, refl, arith}
+use Rattle.std.specs.List.{list_all}
 use Rattle.std.proofs.lemmas.Bool.{and_from, or_from, or_parts, cases_lt, le-ltb, cond-true, cond-false}
 use Rattle.std.proofs.lemmas.List.{drop-append-le, take-append-le, length_push}
 use Rattle.std.proofs.lemmas.List.Folds.{list_all-append}
@@ -22,8 +22,8 @@ use Rattle.dd_log.specs.declared.events.Spec.{Spec}
 use Rattle.dd_log.specs.Events.{draws_anew, begins_picture, loses, cuts_off, any_begins, any_cuts_off}
 use Rattle.dd_log.specs.Desk.{first_desk, desk_after, desk_of, mode_drawn, mode_after}
 use Rattle.dd_log.specs.History.{History, first_entries, desk, desk_mode, entries_fit, event_fits, legal}
-use Rattle.dd_log.specs.Picture.{State, first_state, state_after, state_of, picture, picture_after, shown, shown_after, blank, GoesOn, PictureGoesOn, BeginsBlack, PictureBegins, PictureSinceStart}
-use Rattle.dd_log.proofs.Snoc.{by_snoc, take-past, none_past, any_drop_push}
+use Rattle.dd_log.specs.Picture.{State, first_state, state_after, state_of, picture, picture_after, shown, shown_after, blank, GoesOn, PictureGoesOn, PictureBegins, PictureSinceStart}
+use Rattle.dd_log.proofs.Snoc.{by_snoc, take-past, any_drop_push}
 use Rattle.dd_log.proofs.Desks.{desk-push, mode-push, start_marks, start_tells}
 use Rattle.dd_log.proofs.Legal.{legal_before, parts_of_may_add, allowed_by, fits_mode}
 

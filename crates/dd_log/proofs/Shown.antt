@@ -1,13 +1,13 @@
 -- What a legal list shows is a picture, and what is seen of it a surface.
-use Rattle.std.proofs.Common.{◌≡◌, ◌∙◌, refl, sym, subst, ℕ, true, List, [], ◌∷◌, drop, Option, Some, None}
+use Rattle.std.proofs.Common.{◌≡◌, ◌∙◌, refl, sym, subst, true, List, [], ◌∷◌, drop, Option, Some, None}
 use Rattle.std.specs.List.{list_all}
 use Rattle.std.proofs.lemmas.Bool.{and_parts}
 use Rattle.dd_geom.specs.Grid.{Grid, SameSize}
 use Rattle.dd_grid.specs.Cell.{Cell}
-use Rattle.dd_grid.specs.Drawing.{black, IsPicture}
+use Rattle.dd_grid.specs.Drawing.{IsPicture}
 use Rattle.dd_grid.proofs.MovingLemmas.{IsPicture-black, IsSurface-seen}
 use Rattle.dd_ops.specs.declared.operations.Op.{Op}
-use Rattle.dd_ops.specs.Operations.{all_fit, drawn, drawn_by, fits}
+use Rattle.dd_ops.specs.Operations.{drawn, drawn_by}
 use Rattle.dd_ops.proofs.Pictures.{IsPicture-drawn, SameSize-drawn_by}
 use Rattle.dd_log.specs.declared.events.Entry.{Entry}
 use Rattle.dd_log.specs.History.{History, desk, desk_mode, legal, present_of, present_fits, event_fits, entries_fit}

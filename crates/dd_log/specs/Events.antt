@@ -1,5 +1,5 @@
 -- What an event is: whether it draws, opens, ends, or begins a picture.
-use Rattle.std.specs.Prelude.{ℕ, Bool, true, false, List, Option, Some, None, is_some}
+use Rattle.std.specs.Prelude.{Bool, true, false, List, Option, Some, None, is_some}
 use Rattle.std.specs.List.{list_any}
 use Rattle.dd_ops.specs.declared.operations.Op.{Op}
 use Rattle.dd_log.specs.declared.events.Entry.{Entry}

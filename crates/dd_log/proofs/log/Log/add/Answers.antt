@@ -1,11 +1,8 @@
-use Rattle.std.proofs.Common.{◌≡◌, ◌+◌, ◌<◌, ◌≤◌, Bool, true, sym, ap, subst, length, ◌∙◌, arith, rules}
-use Rattle.dd_log.specs.declared.desk.Desk.{Desk}
-use Rattle.dd_log.specs.declared.events.Entry.{Entry}
-use Rattle.dd_log.specs.Desk.{desk_of, desk_after}
-use Rattle.dd_log.specs.History.{History, may_add, with_entry}
+use Rattle.std.proofs.Common.{◌≡◌, ◌+◌, ◌≤◌, true, sym, subst, length, arith, rules}
+use Rattle.dd_log.specs.History.{History, may_add}
 use Rattle.dd_log.specs.Log.{history}
 use Rattle.dd_log.proofs.Desks.{desk-push, len_tells}
-use Rattle.dd_log.proofs.Legal.{MayAdd, parts_of_may_add, room_before, legal_room, legal_added}
+use Rattle.dd_log.proofs.Legal.{parts_of_may_add, room_before, legal_added}
 use Rattle.dd_log.proofs.log.Log.add.Goals as goal
 
 pub follow-requires-clause-few : goal.follow-requires-clause-few

@@ -1,6 +1,3 @@
-use Rattle.std.proofs.Common.{◌≡◌, List, drop, sym, ◌∙◌, ap}
-use Rattle.dd_log.specs.declared.events.Entry.{Entry}
-use Rattle.dd_log.specs.History.{desk_mode, any_begins}
 use Rattle.dd_log.specs.Log.{history}
 use Rattle.dd_log.proofs.Pictures.{goes_on}
 use Rattle.dd_log.proofs.log.Log.after.Goals as goal

@@ -1,5 +1,5 @@
 -- The desk's place tells what stands from a place on.
-use Rattle.std.proofs.Common.{◌≡◌, nat_lt, drop, ap, ◌∙◌}
+use Rattle.std.proofs.Common.{nat_lt, drop, ap, ◌∙◌}
 use Rattle.dd_log.specs.declared.desk.Desk.{Desk}
 use Rattle.dd_log.specs.History.{History, any_cuts_off}
 use Rattle.dd_log.proofs.Desks.{cut_off_tells}

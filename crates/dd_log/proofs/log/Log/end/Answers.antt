@@ -1,7 +1,7 @@
 -- A list that goes on may have its end.
-use Rattle.std.proofs.Common.{◌≡◌, ◌<◌, true, false, sym, ap, subst, ◌∙◌}
+use Rattle.std.proofs.Common.{◌≡◌, false, sym, ap, ◌∙◌}
 use Rattle.dd_log.specs.declared.desk.Desk.{Desk}
-use Rattle.dd_log.specs.History.{History, desk, end_of, may_add}
+use Rattle.dd_log.specs.History.{History, desk}
 use Rattle.dd_log.proofs.Legal.{may_end}
 use Rattle.dd_log.proofs.log.Log.end.Goals as goal
 

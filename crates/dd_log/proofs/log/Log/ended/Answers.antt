@@ -1,5 +1,5 @@
 -- The desk knows whether the end is among the entries.
-use Rattle.std.proofs.Common.{◌≡◌, ap, ◌∙◌}
+use Rattle.std.proofs.Common.{ap, ◌∙◌}
 use Rattle.dd_log.specs.declared.desk.Desk.{Desk}
 use Rattle.dd_log.specs.History.{History, any_ends}
 use Rattle.dd_log.proofs.Desks.{ended_tells}

@@ -1,11 +1,7 @@
 -- The desk has each actor's last step, and past the actors there is none.
-use Rattle.std.proofs.Common.{◌≡◌, ℕ, ◌<◌, ◌≤◌, get_or, sym, ap, subst, ◌∙◌}
-use Rattle.std.proofs.lemmas.Bool.{cases_lt}
-use Rattle.std.proofs.Math.ListN.{get_or-eq_default}
-use Rattle.std.proofs.Math.Logic.{⊎_elim}
+use Rattle.std.proofs.Common.{get_or, ap, ◌∙◌}
 use Rattle.dd_log.specs.declared.desk.Desk.{Desk}
-use Rattle.dd_log.specs.declared.events.TheConstants.{MAX_ACTORS}
-use Rattle.dd_log.specs.History.{History, last_step, desk, legal}
+use Rattle.dd_log.specs.History.{History, last_step}
 use Rattle.dd_log.specs.Log.{history}
 use Rattle.dd_log.proofs.Legal.{any_step}
 use Rattle.dd_log.proofs.log.Log.last_step.Goals as goal

@@ -1,7 +1,4 @@
 -- The last picture begins within the list.
-use Rattle.std.proofs.Common.{◌≡◌, ◌≤◌, length, subst, sym}
-use Rattle.dd_log.specs.declared.desk.Desk.{Desk}
-use Rattle.dd_log.specs.Log.{history}
 use Rattle.dd_log.proofs.Desks.{start_tells}
 use Rattle.dd_log.proofs.log.Log.picture_start.Goals as goal
 
