@@ -2,6 +2,7 @@
 #![tactic(auto)]
 
 mod answers;
+mod causes;
 mod desk;
 mod events;
 mod laws;

@@ -1,19 +1,16 @@
 //! The list of an output's events, kept whole for the output's life.
 
-ghost use Rattle.std.specs.Prelude.{◌≡◌, ◌+◌, ◌≤◌, ◌<◌, length, drop, false, Ok, Err, Some, None, IsTrue, IfOk, OnOk, OnErr, IfSome, is_none, slice_get, option_map, unwrap_or, position, vec_capacity, vec_len};
+ghost use Rattle.std.specs.Prelude.{◌≡◌, ◌≤◌, ◌<◌, length, drop, false, None, IsTrue, IfOk, OnOk, OnErr, is_none, slice_get, option_map, unwrap_or, position, vec_capacity, vec_len};
 ghost use Rattle.std.specs.Prelude.{◌==◌};
 ghost use Rattle.std.specs.List.{list_any};
-ghost use Rattle.dd_ops.specs.Operations.{first_unfit as unfit_place};
-ghost use Rattle.dd_log.specs.History.{bad_rect, bad_draw, bad_event, verdict as verdict_of};
-ghost use Rattle.dd_ops.specs.declared.lists.TheConstants.{MAX_OPS};
 ghost use Rattle.dd_geom.specs.Rect.{IsSize};
 ghost use Rattle.dd_log.specs.declared.events.TheConstants.{MAX_ACTORS, MAX_CAPACITY};
 
 use crate::answers::LogRefusal;
+use crate::causes::check_event;
 use crate::desk::Desk;
-use crate::events::{Draw, Entry, Event, MAX_CAPACITY, Spec};
-use dd_modes::{Mode, Modes};
-use dd_ops::{Op, fits};
+use crate::events::{Entry, Event, MAX_CAPACITY, Spec};
+use dd_modes::Mode;
 use std::alloc::{AllocError, Global};
 use std::marker::Model;
 
@@ -35,52 +32,6 @@ impl Model for Log {
     ghost view = { history };
 
     ghost invariant = { IsKept };
-}
-
-/// The place of the first operation that doesn't fit a surface of this size.
-fn first_unfit(ops: &[Op], w: u32, h: u32) -> Option<usize>
-    ensures value { result ≡ unfit_place w h ops.now }
-    ensures within { IfSome result (λ k. k < length ops.now) }
-{
-    ops.iter().position(|op| !fits(op, w, h))
-}
-
-/// The cause of an operation that doesn't fit a surface of this size.
-fn check(ops: &[Op], w: u32, h: u32) -> Result<(), LogRefusal>
-    requires { length ops.now ≤ MAX_OPS }
-    ensures { result ≡ verdict_of (bad_rect w h ops.now) }
-{
-    match first_unfit(ops, w, h) {
-        None => Ok(()),
-        Some(op) => Err(LogRefusal::BadRect { op: op as u32 }),
-    }
-}
-
-/// The cause of a drawing by itself, in a mode that is one of some modes.
-fn check_draw(modes: &Modes, mode: Mode, draw: &Draw) -> Result<(), LogRefusal>
-    ensures { result ≡ verdict_of (bad_draw modes.now mode draw.now) }
-{
-    match draw {
-        Draw::Present(ops) => check(ops.as_slice(), mode.width, mode.height),
-        Draw::Mode { index } => {
-            if (*index as usize) < modes.as_slice().len() {
-                Ok(())
-            } else {
-                Err(LogRefusal::BadMode)
-            }
-        }
-        Draw::Switch { .. } | Draw::Disconnect | Draw::Reconnect => Ok(()),
-    }
-}
-
-/// The cause of an event by itself.
-fn check_event(modes: &Modes, mode: Mode, event: &Event) -> Result<(), LogRefusal>
-    ensures { result ≡ verdict_of (bad_event modes.now mode event.now) }
-{
-    match event {
-        Event::Draw(draw) => check_draw(modes, mode, draw),
-        Event::Opened { .. } | Event::Closed { .. } | Event::End => Ok(()),
-    }
 }
 
 /// Equal entries, with memory for as many as `room`.
