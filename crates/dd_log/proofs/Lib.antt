@@ -1,3 +1,6 @@
+pub mod Desks
 pub mod Examples
 pub mod Legal
+pub mod Pictures
 pub mod Shown
+pub mod Snoc

@@ -1,21 +1,23 @@
 -- The one list of an output's events: what it is begun with, its entries, and which lists are legal.
-use Rattle.std.specs.Prelude.{ℕ, ◌+◌, ◌≤◌, ◌≡◌, nat_lt, nat_le, ◌==◌, Bool, true, false, ◌&&◌, if◌then◌else◌, List, [], ◌∷◌, ◌++◌, length, take, fold, slice_get, Option, Some, None, is_none, option_map, unwrap_or, Result, Ok, Err}
-use Rattle.std.specs.List.{list_all}
+use Rattle.std.specs.Prelude.{ℕ, ◌+◌, ◌≤◌, ◌≡◌, nat_lt, nat_le, ◌==◌, Bool, true, false, ◌&&◌, not, if◌then◌else◌, List, [], ◌∷◌, ◌++◌, length, take, fold, slice_get, Option, Some, None, is_none, option_map, unwrap_or, Result, Ok, Err}
+use Rattle.std.specs.List.{list_all, position_or_len}
 use Rattle.dd_modes.specs.declared.modes.Mode.{Mode}
-use Rattle.dd_modes.specs.Modes.{first_mode}
 use Rattle.dd_ops.specs.declared.operations.Op.{Op}
 use Rattle.dd_ops.specs.Operations.{first_unfit, all_fit}
+use Rattle.dd_log.specs.declared.desk.Desk.{Desk}
 use Rattle.dd_log.specs.declared.events.Spec.{Spec}
 use Rattle.dd_log.specs.declared.events.Entry.{Entry}
 use Rattle.dd_log.specs.declared.events.Event.{Event}
-use Rattle.dd_log.specs.declared.events.Event.TheVariants.{Opened}
+use Rattle.dd_log.specs.declared.events.Event.TheVariants.{Opened, Closed, End}
 use Rattle.dd_log.specs.declared.events.Event.TheVariants as events
 use Rattle.dd_log.specs.declared.events.Draw.{Draw}
-use Rattle.dd_log.specs.declared.events.Draw.TheVariants.{Present}
+use Rattle.dd_log.specs.declared.events.Draw.TheVariants.{Present, Switch, Disconnect, Reconnect}
+use Rattle.dd_log.specs.declared.events.Draw.TheVariants as drawings
 use Rattle.dd_log.specs.declared.events.TheConstants.{MAX_ACTORS}
 use Rattle.dd_log.specs.declared.answers.LogRefusal.{LogRefusal}
-use Rattle.dd_log.specs.declared.answers.LogRefusal.TheVariants.{Full, BadRect}
-use Rattle.dd_log.specs.Desk.{desk, opens_freely}
+use Rattle.dd_log.specs.declared.answers.LogRefusal.TheVariants.{Ended, Full, BadMode, BadRect}
+use Rattle.dd_log.specs.Desk.{desk_of, finds_slot}
+pub use Rattle.dd_log.specs.Events.{present_of, is_present, begins_picture, cuts_off, is_opening, is_end, any_begins, any_cuts_off, any_presents, any_ends}
 
 pub record History : Type 0 where
   pub spec : Spec
@@ -38,27 +40,25 @@ pub record Begins (old new : History) : Type 0 where
   pub within : length old.entries ≤ length new.entries
   pub entries : take (length old.entries) new.entries ≡ old.entries
 
--- the operations of a present; none for any other event
-abbrev pub present_of : Event → Option (List Op)
-present_of (events.Draw (Present ops)) = Some ops
-present_of (Opened slot app) = None
+-- the desk beside its picture
+abbrev pub desk : History → Desk
+desk h = desk_of h.spec.modes h.entries
 
--- a duplicator is opened
-abbrev pub is_opening : Event → Bool
-is_opening (events.Draw drawing) = false
-is_opening (Opened slot app) = true
+-- the mode of the desk
+abbrev pub desk_mode : History → Mode
+desk_mode h = (desk h).mode
 
 -- the entry at a place, where there is one, is an opening
 abbrev pub opens_at : History → ℕ → Bool
 opens_at h place = unwrap_or (option_map (λ e. is_opening e.event) (slice_get h.entries place)) false
 
--- the mode of the desk
-abbrev pub desk_mode : History → Mode
-desk_mode h = first_mode h.spec.modes
-
 -- the last step of an actor, 0 where it has none
 abbrev pub last_step : List Entry → ℕ → ℕ
 last_step es actor = fold (λ last e. if e.actor == actor then e.step else last) 0 es
+
+-- the number of entries before the end
+abbrev pub before_end : List Entry → ℕ
+before_end es = position_or_len (λ e. is_end e.event) es
 
 -- one place is kept for the list's end
 abbrev pub is_full : History → Bool
@@ -68,14 +68,26 @@ is_full h = nat_le h.spec.capacity (length h.entries + 1)
 abbrev pub bad_rect : ℕ → ℕ → List Op → Option LogRefusal
 bad_rect w h ops = option_map BadRect (first_unfit w h ops)
 
--- the cause of a present's operations, where there is a present
-abbrev pub bad_present : ℕ → ℕ → Option (List Op) → Option LogRefusal
-bad_present w h None = None
-bad_present w h (Some ops) = bad_rect w h ops
+-- the cause of a drawing by itself, in a mode that is one of some modes
+abbrev pub bad_draw : List Mode → Mode → Draw → Option LogRefusal
+bad_draw modes mode (Present ops) = bad_rect mode.width mode.height ops
+bad_draw modes mode (drawings.Mode index) = if nat_lt index (length modes) then None else Some BadMode
+bad_draw modes mode (Switch secure) = None
+bad_draw modes mode Disconnect = None
+bad_draw modes mode Reconnect = None
 
--- why an event isn't appended, if it isn't
+-- and of an event
+abbrev pub bad_event : List Mode → Mode → Event → Option LogRefusal
+bad_event modes mode (events.Draw drawing) = bad_draw modes mode drawing
+bad_event modes mode (Opened slot app) = None
+bad_event modes mode (Closed slot) = None
+bad_event modes mode End = None
+
+-- why an event isn't appended, if it isn't; the end alone has the place that is kept
 abbrev pub refusal : History → Event → Option LogRefusal
-refusal h e = if is_full h then Some Full else bad_present (desk_mode h).width (desk_mode h).height (present_of e)
+refusal h e =
+    if (desk h).ended then Some Ended
+    else (if is_full h && not (is_end e) then Some Full else bad_event h.spec.modes (desk_mode h) e)
 
 -- and why a drawing isn't
 abbrev pub allowed : History → Draw → Option LogRefusal
@@ -102,7 +114,7 @@ verdict (Some cause) = Err cause
 unfoldable pub may_add : History → Entry → Bool
 may_add h e =
     nat_lt e.actor MAX_ACTORS && nat_lt (last_step h.entries e.actor) e.step && is_none (refusal h e.event)
-    && opens_freely (desk h.entries) e.event
+    && finds_slot (desk h).slots e.event
 
 abbrev pub legal_after : Spec → List Entry → List Entry → Bool
 legal_after spec before [] = true
@@ -112,3 +124,38 @@ legal_after spec before (e ∷ es) =
 -- each entry was one that the list before it may have
 unfoldable pub legal : History → Bool
 legal h = legal_after h.spec [] h.entries
+
+-- the end of a list by an actor's step, and that of an actor's step
+abbrev pub end_of : ℕ → ℕ → Entry
+end_of actor step = record { actor = actor; step = step; event = End }
+
+-- the list with its end; an ended list has it
+abbrev pub ended_by : History → ℕ → ℕ → History
+ended_by h actor step = if (desk h).ended then h else with_entry h (end_of actor step)
+
+-- a beginning of a legal list is legal
+abbrev pub BeginningIsLegal : Type 0
+BeginningIsLegal = (h : History) (n : ℕ) → legal h ≡ true → legal (first_entries n h) ≡ true
+
+-- a list with one entry more is legal exactly where the list is, and may have the entry
+abbrev pub LegalByEntries : Type 0
+LegalByEntries = (h : History) (e : Entry) → legal (with_entry h e) ≡ (legal h && may_add h e)
+
+-- a list has ended where the end is among its entries, and nothing follows the end of a legal list
+abbrev pub EndIsLast : Type 0
+EndIsLast =
+    (h : History)
+    → ((desk h).ended ≡ any_ends h.entries)
+    × (legal h ≡ true → length h.entries ≡ (if (desk h).ended then before_end h.entries + 1 else before_end h.entries))
+
+-- each entry but the end is one more before the end
+abbrev pub BeforeEndCounts : Type 0
+BeforeEndCounts =
+    (h : History) (e : Entry) → legal (with_entry h e) ≡ true
+    → before_end (with_entry h e).entries ≡ (if is_end e.event then before_end h.entries else before_end h.entries + 1)
+
+-- a legal list has at most as many entries as its capacity says, and a place is left until it has ended
+abbrev pub LegalHasRoom : Type 0
+LegalHasRoom =
+    (h : History) → legal h ≡ true → 1 ≤ h.spec.capacity
+    → (length h.entries ≤ h.spec.capacity) × ((desk h).ended ≡ false → length h.entries + 1 ≤ h.spec.capacity)

@@ -1,4 +1,5 @@
 pub mod Desk
+pub mod Events
 pub mod History
 pub mod Log
 pub mod Picture

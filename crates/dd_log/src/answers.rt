@@ -39,8 +39,12 @@ pub struct FrameInfo {
 /// Why a drawing wasn't appended to the list.
 #[derive(Clone, Copy, Debug, PartialEq, Eq, Error)]
 pub enum LogRefusal {
+    #[error("the list has ended")]
+    Ended,
     #[error("the list is full")]
     Full,
+    #[error("the output has no such mode")]
+    BadMode,
     /// Operation number `op`, from 0, is the first that doesn't fit the mode.
     #[error("operation {op} doesn't fit the mode")]
     BadRect { op: u32 },
@@ -49,10 +53,27 @@ pub enum LogRefusal {
 /// Why a duplicator wasn't opened.
 #[derive(Clone, Copy, Debug, PartialEq, Eq, Error)]
 pub enum OpenRefusal {
+    /// The session is disconnected, or the list has ended.
+    #[error("the session is disconnected")]
+    SessionDisconnected,
+    /// The desktop is secure, and the application isn't privileged.
+    #[error("the desktop is secure")]
+    AccessDenied,
     #[error("the application already duplicates the output")]
     AlreadyDuplicating,
     #[error("four duplicators are open")]
     NotAvailable,
+    #[error("the list is full")]
+    Full,
+}
+
+/// Why a duplicator wasn't closed.
+#[derive(Clone, Copy, Debug, PartialEq, Eq, Error)]
+pub enum CloseRefusal {
+    #[error("the client has no duplicator")]
+    NoDuplicator,
+    #[error("the list has ended")]
+    Ended,
     #[error("the list is full")]
     Full,
 }

@@ -1,7 +1,7 @@
 //! The events of an output's list.
 
 ghost use Rattle.std.specs.Prelude.{◌≡◌, IfOk, option_map};
-ghost use Rattle.dd_log.specs.History.{present_of};
+ghost use Rattle.dd_log.specs.Events.{operations_of, present_of, draws_anew, begins_picture, loses, cuts_off, is_end};
 
 use crate::lists::Apps;
 use dd_modes::Modes;
@@ -29,11 +29,32 @@ pub struct Spec {
     pub privileged: Apps,
 }
 
+impl Spec {
+    /// An equal one, on memory of its own.
+    pub fn copy(&self) -> Result<Spec, AllocError>
+        ensures { IfOk result (λ spec. spec ≡ self.now) }
+    {
+        Ok(Spec {
+            modes: self.modes.copy()?,
+            capacity: self.capacity,
+            privileged: self.privileged.copy()?,
+        })
+    }
+}
+
 /// What drawing actors do.
 #[derive(Debug, Drop)]
 pub enum Draw {
     /// Draws 0 to 64 operations, in their order.
     Present(Ops),
+    /// Sets the mode, one of those of the spec, from 0, and begins a black picture.
+    Mode { index: u32 },
+    /// Goes to the secure desktop, or back from it, and begins a black picture.
+    Switch { secure: bool },
+    /// Disconnects the session.
+    Disconnect,
+    /// Connects the session again.
+    Reconnect,
 }
 
 impl Draw {
@@ -43,6 +64,40 @@ impl Draw {
     {
         match self {
             Draw::Present(ops) => Ok(Draw::Present(ops.copy()?)),
+            Draw::Mode { index } => Ok(Draw::Mode { index: *index }),
+            Draw::Switch { secure } => Ok(Draw::Switch { secure: *secure }),
+            Draw::Disconnect => Ok(Draw::Disconnect),
+            Draw::Reconnect => Ok(Draw::Reconnect),
+        }
+    }
+
+    /// The operations of a present; none for any other drawing.
+    fn operations(&self) -> Option<&Ops>
+        ensures { option_map (λ ops. ops.now) result ≡ operations_of self.now }
+    {
+        match self {
+            Draw::Present(ops) => Some(ops),
+            Draw::Mode { .. } | Draw::Switch { .. } | Draw::Disconnect | Draw::Reconnect => None,
+        }
+    }
+
+    /// Whether it begins a black picture.
+    fn draws_anew(&self) -> bool
+        ensures { result ≡ draws_anew self.now }
+    {
+        match self {
+            Draw::Mode { .. } | Draw::Switch { .. } => true,
+            Draw::Present(_) | Draw::Disconnect | Draw::Reconnect => false,
+        }
+    }
+
+    /// Whether duplicators that were opened before it are lost.
+    fn loses(&self) -> bool
+        ensures { result ≡ loses self.now }
+    {
+        match self {
+            Draw::Mode { .. } | Draw::Switch { .. } | Draw::Disconnect => true,
+            Draw::Present(_) | Draw::Reconnect => false,
         }
     }
 }
@@ -53,16 +108,65 @@ pub enum Event {
     Draw(Draw),
     /// A duplicator was opened in a slot, 0 to 3, for an application.
     Opened { slot: u32, app: u32 },
+    /// The duplicator in a slot, 0 to 3, was closed.
+    Closed { slot: u32 },
+    /// The list has ended.
+    End,
 }
 
 impl Event {
+    /// An equal event, on memory of its own.
+    pub fn copy(&self) -> Result<Event, AllocError>
+        ensures { IfOk result (λ event. event ≡ self.now) }
+    {
+        match self {
+            Event::Draw(draw) => Ok(Event::Draw(draw.copy()?)),
+            Event::Opened { slot, app } => Ok(Event::Opened {
+                slot: *slot,
+                app: *app,
+            }),
+            Event::Closed { slot } => Ok(Event::Closed { slot: *slot }),
+            Event::End => Ok(Event::End),
+        }
+    }
+
     /// The operations of a present; none for any other event.
     pub fn present(&self) -> Option<&Ops>
         ensures { option_map (λ ops. ops.now) result ≡ present_of self.now }
     {
         match self {
-            Event::Draw(Draw::Present(ops)) => Some(ops),
-            Event::Opened { .. } => None,
+            Event::Draw(draw) => draw.operations(),
+            Event::Opened { .. } | Event::Closed { .. } | Event::End => None,
+        }
+    }
+
+    /// Whether the desk has a black picture after it, in the mode that stands then.
+    pub fn begins_picture(&self) -> bool
+        ensures { result ≡ begins_picture self.now }
+    {
+        match self {
+            Event::Draw(draw) => draw.draws_anew(),
+            Event::Opened { .. } | Event::Closed { .. } | Event::End => false,
+        }
+    }
+
+    /// Whether duplicators that were opened before it are lost.
+    pub fn cuts_off(&self) -> bool
+        ensures { result ≡ cuts_off self.now }
+    {
+        match self {
+            Event::Draw(draw) => draw.loses(),
+            Event::Opened { .. } | Event::Closed { .. } | Event::End => false,
+        }
+    }
+
+    /// Whether the list has ended with it.
+    pub fn is_end(&self) -> bool
+        ensures { result ≡ is_end self.now }
+    {
+        match self {
+            Event::End => true,
+            Event::Draw(_) | Event::Opened { .. } | Event::Closed { .. } => false,
         }
     }
 }
@@ -75,4 +179,17 @@ pub struct Entry {
     /// Greater than each earlier step of the same actor, from 1.
     pub step: u32,
     pub event: Event,
+}
+
+impl Entry {
+    /// An equal entry, on memory of its own.
+    pub fn copy(&self) -> Result<Entry, AllocError>
+        ensures { IfOk result (λ entry. entry ≡ self.now) }
+    {
+        Ok(Entry {
+            actor: self.actor,
+            step: self.step,
+            event: self.event.copy()?,
+        })
+    }
 }

@@ -2,6 +2,7 @@
 #![tactic(auto)]
 
 mod answers;
+mod causes;
 mod desk;
 mod events;
 mod laws;
@@ -10,9 +11,12 @@ mod log;
 #[cfg(test)]
 mod tests;
 
-pub use answers::{Answer, DupRefusal, FrameInfo, LogRefusal, OpenRefusal, Pointer};
+pub use answers::{Answer, CloseRefusal, DupRefusal, FrameInfo, LogRefusal, OpenRefusal, Pointer};
 pub use desk::{Desk, MAX_DUPLICATORS};
 pub use events::{Draw, Entry, Event, MAX_ACTORS, MAX_CAPACITY, MAX_PRIVILEGED, Spec};
-pub use laws::legal_is_shown;
+pub use laws::{
+    before_end_counts, beginning_is_legal, end_is_last, legal_by_entries, legal_has_room,
+    legal_is_shown, picture_begins, picture_goes_on, picture_since_start,
+};
 pub use lists::{Apps, Rows};
 pub use log::Log;

@@ -1,8 +1,10 @@
 //! Lists of applications and of rows, which contracts see as lists.
 
-ghost use Rattle.std.specs.Prelude.{◌≡◌};
+ghost use Rattle.std.specs.Prelude.{◌≡◌, ◌==◌, IfOk};
+ghost use Rattle.std.specs.List.{list_any};
 
 use dd_ops::Colours;
+use std::alloc::AllocError;
 use std::marker::Model;
 
 /// A list of applications, each told by a number.
@@ -33,6 +35,21 @@ impl Apps {
     {
         let Apps { items } = self;
         items
+    }
+
+    /// Whether an application is among them.
+    pub fn contains(&self, app: u32) -> bool
+        ensures { result ≡ list_any (λ other. other == app) self.now }
+    {
+        self.items.iter().any(|other| *other == app)
+    }
+
+    /// An equal list, on memory of its own.
+    pub fn copy(&self) -> Result<Apps, AllocError>
+        ensures { IfOk result (λ apps. apps ≡ self.now) }
+    {
+        let items = Vec::from_slice(*self.items.allocator(), self.as_slice())?;
+        Ok(Apps { items })
     }
 
     pub fn as_slice(&self) -> &[u32]

@@ -1,18 +1,16 @@
 //! The list of an output's events, kept whole for the output's life.
 
-ghost use Rattle.std.specs.Prelude.{◌≡◌, ◌+◌, ◌≤◌, ◌<◌, length, drop, Ok, Err, Some, None, IsTrue, IfOk, OnOk, OnErr, IfSome, is_none, slice_get, option_map, position};
+ghost use Rattle.std.specs.Prelude.{◌≡◌, ◌≤◌, ◌<◌, length, drop, false, None, IsTrue, IfOk, OnOk, OnErr, is_none, slice_get, option_map, unwrap_or, position, vec_capacity, vec_len};
 ghost use Rattle.std.specs.Prelude.{◌==◌};
-ghost use Rattle.dd_ops.specs.Operations.{first_unfit as unfit_place};
-ghost use Rattle.dd_log.specs.History.{bad_rect, verdict as verdict_of};
-ghost use Rattle.dd_ops.specs.declared.lists.TheConstants.{MAX_OPS};
+ghost use Rattle.std.specs.List.{list_any};
 ghost use Rattle.dd_geom.specs.Rect.{IsSize};
 ghost use Rattle.dd_log.specs.declared.events.TheConstants.{MAX_ACTORS, MAX_CAPACITY};
 
 use crate::answers::LogRefusal;
+use crate::causes::check_event;
 use crate::desk::Desk;
 use crate::events::{Entry, Event, MAX_CAPACITY, Spec};
 use dd_modes::Mode;
-use dd_ops::{Op, fits};
 use std::alloc::{AllocError, Global};
 use std::marker::Model;
 
@@ -36,28 +34,21 @@ impl Model for Log {
     ghost invariant = { IsKept };
 }
 
-/// The place of the first operation that doesn't fit a surface of this size.
-fn first_unfit(ops: &[Op], w: u32, h: u32) -> Option<usize>
-    ensures value { result ≡ unfit_place w h ops.now }
-    ensures within { IfSome result (λ k. k < length ops.now) }
+/// Equal entries, with memory for as many as `room`.
+fn copies(alloc: Global, entries: &[Entry], room: usize) -> Result<Vec<Entry>, AllocError>
+    requires { length entries.now ≤ room }
+    ensures { IfOk result (λ v. (v.items ≡ entries.now) × (room ≤ vec_capacity v)) }
 {
-    ops.iter().position(|op| !fits(op, w, h))
-}
-
-/// The cause of an operation that doesn't fit a surface of this size.
-fn check(ops: &[Op], w: u32, h: u32) -> Result<(), LogRefusal>
-    requires { length ops.now ≤ MAX_OPS }
-    ensures { result ≡ verdict_of (bad_rect w h ops.now) }
-{
-    match first_unfit(ops, w, h) {
-        None => Ok(()),
-        Some(op) => Err(LogRefusal::BadRect { op: op as u32 }),
+    let mut items = Vec::with_capacity(alloc, room)?;
+    for entry in entries {
+        items.push_reserved(entry.copy()?);
     }
+    Ok(items)
 }
 
 impl Log {
-    ghost use Rattle.dd_log.specs.Desk.{desk, is_app, opens_freely};
-    ghost use Rattle.dd_log.specs.History.{begun, with_entry, legal, may_add, refusal, verdict, desk_mode, is_full, last_step, entries_fit};
+    ghost use Rattle.dd_log.specs.Desk.{finds_slot, is_app};
+    ghost use Rattle.dd_log.specs.History.{begun, with_entry, ended_by, desk, desk_mode, legal, may_add, refusal, verdict, is_end, is_full, last_step, entries_fit, any_begins, any_cuts_off, any_presents, any_ends};
 
     /// An empty list, with memory for all entries that it may ever have.
     pub fn start(alloc: Global, spec: Spec) -> Result<Log, AllocError>
@@ -66,19 +57,34 @@ impl Log {
         ensures { IfOk result (λ log. log ≡ begun spec) }
     {
         let entries = Vec::with_capacity(alloc, spec.capacity as usize)?;
+        let desk = Desk::first(&spec.modes);
         Ok(Log {
             spec,
             entries,
-            desk: Desk::first(),
+            desk,
         })
     }
 
-    /// Adds an entry, on the memory that is there.
-    fn add(&mut self, entry: Entry)
+    /// An equal list, with memory of its own for all entries that it may ever have.
+    pub fn copy(&self) -> Result<Log, AllocError>
+        ensures { IfOk result (λ log. log ≡ self.now) }
+    {
+        let spec = self.spec.copy()?;
+        let room = self.spec.capacity as usize;
+        let entries = copies(*self.entries.allocator(), self.entries.as_slice(), room)?;
+        Ok(Log {
+            spec,
+            entries,
+            desk: self.desk,
+        })
+    }
+
+    /// Adds an entry that the list may have, on the memory that is there.
+    pub fn add(&mut self, entry: Entry)
         requires { IsTrue (may_add self.old entry) }
         ensures { self.new ≡ with_entry self.old entry }
     {
-        self.desk.follow(&entry.event);
+        self.desk.follow(&self.spec.modes, &entry);
         self.entries.push_reserved(entry);
     }
 
@@ -86,23 +92,22 @@ impl Log {
     fn allows(&self, event: &Event) -> Result<(), LogRefusal>
         ensures { result ≡ verdict (refusal self.now event.now) }
     {
-        if self.full() {
+        if self.desk.ended {
+            return Err(LogRefusal::Ended);
+        }
+        if self.full() && !event.is_end() {
             return Err(LogRefusal::Full);
         }
-        match event.present() {
-            None => Ok(()),
-            Some(ops) => {
-                let mode = self.mode();
-                check(ops.as_slice(), mode.width, mode.height)
-            }
-        }
+        check_event(&self.spec.modes, self.desk.mode, event)
     }
 
-    /// Appends a drawing or an opening, or says the first cause why not. It takes no memory.
+    /// Appends a drawing, an opening or a closing, or says the first cause why not. It takes no
+    /// memory.
     pub fn append(&mut self, entry: Entry) -> Result<(), LogRefusal>
+        requires kind { is_end entry.event ≡ false }
         requires actor { entry.actor < MAX_ACTORS }
         requires step { last_step self.old.entries entry.actor < entry.step }
-        requires opening { IsTrue (opens_freely (desk self.old.entries) entry.event) }
+        requires slot { IsTrue (finds_slot (desk self.old).slots entry.event) }
         ensures answer { result ≡ verdict (refusal self.old entry.event) }
         ensures ok { OnOk result (self.new ≡ with_entry self.old entry) }
         ensures err { OnErr result (self.new ≡ self.old) }
@@ -112,10 +117,28 @@ impl Log {
         Ok(())
     }
 
+    /// Ends the list, in the place that is kept for it; an ended list stays as it is. It takes no
+    /// memory.
+    pub fn end(&mut self, actor: u32, step: u32)
+        requires actor { actor < MAX_ACTORS }
+        requires step { (desk self.old).ended ≡ false → last_step self.old.entries actor < step }
+        ensures { self.new ≡ ended_by self.old actor step }
+    {
+        if !self.desk.ended {
+            self.add(Entry {
+                actor,
+                step,
+                event: Event::End,
+            });
+        }
+    }
+
     /// The number of entries.
     pub fn len(&self) -> u64
         ensures len { result ≡ length self.now.entries }
         ensures legal { IsTrue (legal self.now) }
+        ensures within { length self.now.entries ≤ self.now.spec.capacity }
+        ensures capacity { self.now.spec.capacity ≤ MAX_CAPACITY }
         ensures few { length self.now.entries ≤ MAX_CAPACITY }
     {
         self.entries.len() as u64
@@ -138,7 +161,8 @@ impl Log {
     pub fn after(&self, place: u64) -> &[Entry]
         requires { place ≤ length self.now.entries }
         ensures value { result.now ≡ drop place self.now.entries }
-        ensures fit { IsTrue (entries_fit (desk_mode self.now).width (desk_mode self.now).height result.now) }
+        ensures fit { any_begins result.now ≡ false
+            → IsTrue (entries_fit (desk_mode self.now).width (desk_mode self.now).height result.now) }
         ensures legal { IsTrue (legal self.now) }
         ensures few { length self.now.entries ≤ MAX_CAPACITY }
     {
@@ -146,12 +170,55 @@ impl Log {
         after
     }
 
+    /// Whether an entry from a place on loses the duplicators that were opened before it.
+    pub fn cut_off_since(&self, place: u64) -> bool
+        ensures { result ≡ any_cuts_off (drop place self.now.entries) }
+    {
+        place < self.desk.cut_off
+    }
+
+    /// Whether there is a present from a place on.
+    pub fn presented_since(&self, place: u64) -> bool
+        ensures { result ≡ any_presents (drop place self.now.entries) }
+    {
+        place < self.desk.presented
+    }
+
+    /// The last step of an actor, 0 where it has none.
+    pub fn last_step(&self, actor: u32) -> u32
+        ensures { result ≡ last_step self.now.entries actor }
+    {
+        self.desk.step_of(actor)
+    }
+
     /// The mode of the desk.
     pub fn mode(&self) -> Mode
         ensures value { result ≡ desk_mode self.now }
         ensures size { IsSize result.width result.height }
     {
-        self.spec.modes.first()
+        self.desk.mode
+    }
+
+    /// Whether the desktop is secure.
+    pub fn secure(&self) -> bool
+        ensures { result ≡ (desk self.now).secure }
+    {
+        self.desk.secure
+    }
+
+    /// Whether the session is connected.
+    pub fn connected(&self) -> bool
+        ensures { result ≡ (desk self.now).connected }
+    {
+        self.desk.connected
+    }
+
+    /// Whether the list has ended.
+    pub fn ended(&self) -> bool
+        ensures value { result ≡ (desk self.now).ended }
+        ensures plain { result ≡ any_ends self.now.entries }
+    {
+        self.desk.ended
     }
 
     /// Whether no place is left but the one kept for the list's end.
@@ -161,17 +228,39 @@ impl Log {
         self.spec.capacity as usize <= self.entries.len() + 1
     }
 
+    /// The place after the last entry that begins a picture, else 0.
+    pub fn picture_start(&self) -> u64
+        ensures value { result ≡ (desk self.now).picture_start }
+        ensures within { result ≤ length self.now.entries }
+    {
+        self.desk.picture_start
+    }
+
     /// The slot, 0 to 3, that is open for an application.
     pub fn slot_of(&self, app: u32) -> Option<u32>
-        ensures { result ≡ position (is_app app) ((desk self.now.entries).slots) }
+        ensures { result ≡ position (is_app app) (desk self.now).slots }
     {
         self.desk.slot_of(app)
     }
 
     /// The least slot that is free.
     pub fn free_slot(&self) -> Option<u32>
-        ensures { result ≡ position is_none ((desk self.now.entries).slots) }
+        ensures { result ≡ position is_none (desk self.now).slots }
     {
         self.desk.free_slot()
+    }
+
+    /// The application that a slot is open for; none where it is free, or no slot.
+    pub fn app_of(&self, slot: u32) -> Option<u32>
+        ensures { result ≡ unwrap_or (slice_get (desk self.now).slots slot) None }
+    {
+        self.desk.app_of(slot)
+    }
+
+    /// Whether an application may duplicate a secure desktop.
+    pub fn privileged(&self, app: u32) -> bool
+        ensures { result ≡ list_any (λ other. other == app) self.now.spec.privileged }
+    {
+        self.spec.privileged.contains(app)
     }
 }

@@ -1,5 +1,6 @@
 -- What the tests on modes say, as facts.
-use Rattle.std.proofs.Common.{◌≡◌, ◌*◌, ◌<◌, ◌≤◌, true, List, [], ◌∷◌, length, nat_le, arith}
+use Rattle.std.proofs.Common.{◌≡◌, ℕ, zero, suc, ◌*◌, ◌<◌, ◌≤◌, true, List, [], ◌∷◌, length, nat_le, slice_get, arith}
+use Rattle.std.specs.Prelude.{IfSome}
 use Rattle.std.specs.List.{list_all}
 use Rattle.std.proofs.lemmas.Bool.{and_parts, and_from, le-leb}
 use Rattle.dd_geom.specs.Rect.{IsSize}
@@ -45,3 +46,16 @@ first_of_modes [] h = let a = and_parts _ (list_all is_mode []) h in let b =
 first_of_modes (m ∷ ms) h =
     let a = and_parts _ (list_all is_mode (m ∷ ms)) h in
     (omega arith, size_of_mode m (and_parts (is_mode m) (list_all is_mode ms) a.1).0)
+
+-- each mode of a list that passes a test keeps the limits
+size_found : (ms : List Mode) (k : ℕ) → list_all is_mode ms ≡ true
+    → IfSome (slice_get ms k) (λ m. IsSize m.width m.height)
+size_found [] k t = tt
+size_found (m ∷ ms) zero t = size_of_mode m (and_parts (is_mode m) (list_all is_mode ms) t).0
+size_found (m ∷ ms) (suc k) t = size_found ms k (and_parts (is_mode m) (list_all is_mode ms) t).1
+
+-- and so does each mode of an output
+pub sizes_of_modes : (ms : List Mode) (k : ℕ) → are_modes ms ≡ true
+    → IfSome (slice_get ms k) (λ m. IsSize m.width m.height)
+unfolding are_modes
+sizes_of_modes ms k t = size_found ms k (and_parts _ (list_all is_mode ms) t).1

@@ -1,11 +1,12 @@
 //! Modes, and the list of those that an output has.
 
-ghost use Rattle.std.specs.Prelude.{◌≡◌, ◌↔◌, IsTrue, if◌then◌else◌};
+ghost use Rattle.std.specs.Prelude.{◌≡◌, ◌↔◌, IsTrue, IfOk, IfSome, slice_get, if◌then◌else◌};
 ghost use Rattle.dd_geom.specs.Rect.{IsSize};
 ghost use Rattle.std.specs.List.{list_all};
 ghost use Rattle.dd_modes.specs.Modes.{is_mode, are_modes};
 
 use dd_geom::{MAX_PIXELS, MAX_SIDE};
+use std::alloc::AllocError;
 use std::marker::Model;
 
 /// The most modes of an output.
@@ -69,6 +70,13 @@ fn fit_an_output(modes: &[Mode]) -> bool
     1 <= modes.len() && modes.len() <= MAX_MODES && are_within_limits(modes)
 }
 
+/// The mode with so many modes before it.
+fn found(modes: &[Mode], index: usize) -> Option<Mode>
+    ensures { result ≡ slice_get modes.now index }
+{
+    modes.get(index).copied()
+}
+
 /// The modes of an output: 1 to 16, each within the limits.
 #[derive(Debug, Drop)]
 pub struct Modes {
@@ -108,6 +116,22 @@ impl Modes {
         ensures modes { IsTrue (are_modes self.now) }
     {
         self.items.as_slice()
+    }
+
+    /// An equal list, on memory of its own.
+    pub fn copy(&self) -> Result<Modes, AllocError>
+        ensures { IfOk result (λ modes. modes ≡ self.now) }
+    {
+        let items = Vec::from_slice(*self.items.allocator(), self.as_slice())?;
+        Ok(Modes { items })
+    }
+
+    /// The mode with so many modes before it.
+    pub fn get(&self, index: u32) -> Option<Mode>
+        ensures value { result ≡ slice_get self.now index }
+        ensures size { IfSome result (λ mode. IsSize mode.width mode.height) }
+    {
+        found(self.items.as_slice(), index as usize)
     }
 
     /// The mode that an output begins with.

@@ -39,6 +39,10 @@ fn lists_of_modes(rt: HostRuntime) -> Result<(), Fail> {
     let modes = Modes::from_vec(vec![in alloc; turned, mode(8192, 2048)]?).ok_or("no modes")?;
     assert_eq!(rt; modes.first(), turned);
     assert_eq!(rt; modes.as_slice(), [turned, mode(8192, 2048)].as_slice());
+    let copy = modes.copy()?;
+    for (index, want) in [(0, Some(turned)), (1, Some(mode(8192, 2048))), (2, None)] {
+        assert_eq!(rt; copy.get(index), want, "{index}");
+    }
 
     let most = vec![in alloc; mode(4, 3); MAX_MODES]?;
     assert!(rt; Modes::from_vec(most).is_some());

@@ -14,5 +14,5 @@ add-requires c = may_add_of_parts c.args.self.now c.args.entry (record {
   actor = c.requires.actor;
   step = c.requires.step;
   allowed = none_of_ok (refusal c.args.self.now c.args.entry.event) c.in_ok-allows.field-0 c.in_ok-allows.ensures;
-  opening = c.requires.opening;
+  slot = c.requires.slot;
 })
