@@ -6,6 +6,7 @@ ghost use Rattle.dd_log.specs.declared.answers.DupRefusal.TheVariants.{OutOfMemo
 use crate::lists::Rows;
 use dd_geom::{Moves, Point, Rects};
 use dd_io::Bytes;
+use dd_modes::Mode;
 use std::alloc::AllocError;
 use thiserror::Error;
 
@@ -81,6 +82,10 @@ pub enum CloseRefusal {
 /// Why a duplicator refused a call.
 #[derive(Clone, Copy, Debug, PartialEq, Eq, Error)]
 pub enum DupRefusal {
+    /// The mode changed, the desktop was switched, or the session was disconnected: the duplicator is
+    /// lost for good.
+    #[error("the duplicator is lost")]
+    AccessLost,
     /// A frame is held where there may be none, or none where there must be one.
     #[error("the call doesn't fit the duplicator's state")]
     InvalidCall,
@@ -113,6 +118,11 @@ pub enum Answer {
         slot: u32,
     },
     NotOpened(OpenRefusal),
+    /// The duplicator's closing is the entry of this event number.
+    Closed {
+        entry: u64,
+    },
+    NotClosed(CloseRefusal),
     Frame {
         info: FrameInfo,
         moves: Moves,
@@ -121,6 +131,8 @@ pub enum Answer {
     Released,
     /// The rows of the acquired surface; none where no frame is held.
     Surface(Option<Rows>),
+    /// The mode in which the duplicator was opened.
+    Desc(Mode),
     Refused {
         refusal: DupRefusal,
         /// The whole buffer of a call that was given one.
