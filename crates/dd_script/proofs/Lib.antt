@@ -5,6 +5,7 @@ pub mod Causes
 pub mod OnLiterals
 pub mod ScriptExamples
 pub mod NoFloat
+pub mod SurfaceText
 pub mod Parts
 pub mod AnswerExamples
 pub mod InRange

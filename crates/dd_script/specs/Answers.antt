@@ -1,5 +1,5 @@
 -- Answers as JSON trees: a member for each part, the keys in the order of their bytes.
-use Rattle.std.specs.Prelude.{ℕ, ℤ, true, List, map, codes, Option, Some, None, option_map, drop}
+use Rattle.std.specs.Prelude.{◌≡◌, ℕ, ℤ, true, List, map, codes, Option, Some, None, option_map, drop}
 use Rattle.std.specs.List.{flat_map}
 use Rattle.std.specs.Int.{w32, to_be_bytes}
 use Rattle.hex.specs.Hex.{encode_lower}
@@ -175,3 +175,7 @@ answer_tree answer.Released = object (member (codes "released") (boolean true) n
 answer_tree (answer.Surface rows) = surface_tree rows
 answer_tree (answer.Refused refusal buffer) = refusal_tree (refused_call refusal buffer)
 answer_tree answer.NoDuplicator = refusal_tree refused_client
+
+-- the answer isn't a surface; private calls alone cite this
+abbrev pub IsNoSurface : Answer → Type 0
+IsNoSurface a = (rows : Option (List (List ℕ))) → a ≡ answer.Surface rows → ⊥

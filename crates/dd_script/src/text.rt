@@ -7,15 +7,15 @@ use std::marker::Model;
 /// The bytes of a text.
 #[derive(Debug, Drop)]
 pub struct Text {
-    text: String,
+    bytes: Vec<u8>,
 }
 
 impl Model for Text {
-    ghost use Rattle.std.specs.Prelude.{List, ℕ, string_bytes};
+    ghost use Rattle.std.specs.Prelude.{List, ℕ};
 
     ghost Value = { List ℕ };
 
-    ghost view = { λ t. string_bytes t.text };
+    ghost view = { λ t. t.bytes.items };
 }
 
 impl Text {
@@ -23,20 +23,21 @@ impl Text {
     pub fn from_string(text: String) -> Text
         ensures { result ≡ string_bytes text }
     {
-        Text { text }
+        Text {
+            bytes: text.into_bytes(),
+        }
     }
 
-    /// The string itself.
-    pub fn into_string(self) -> String
-        ensures { string_bytes result ≡ self }
+    /// The text of these bytes, on their memory.
+    pub fn from_vec(bytes: Vec<u8>) -> Text
+        ensures { result ≡ bytes.items }
     {
-        let Text { text } = self;
-        text
+        Text { bytes }
     }
 
     pub fn as_bytes(&self) -> &[u8]
         ensures { result.now ≡ self.now }
     {
-        self.text.as_bytes()
+        &self.bytes
     }
 }

@@ -2,20 +2,32 @@
 
 ghost use Rattle.std.specs.Prelude.{◌≡◌, IfOk};
 ghost use Rattle.serde_json.specs.View.{view};
-ghost use Rattle.dd_script.specs.Answers.{answer_tree};
+ghost use Rattle.dd_script.specs.Answers.{answer_tree, IsNoSurface};
 ghost use Rattle.dd_script.specs.Texts.{line};
 
 use crate::text::Text;
 use crate::writing::frames::frame_tree;
 use crate::writing::refusals::{refused_call, refused_client, refused_drawing, refused_opening};
-use crate::writing::surfaces::surface_tree;
+use crate::writing::surfaces::surface_text;
 use dd_log::Answer;
 use serde_json::{Value, json};
 use std::alloc::{AllocError, Global};
 
 /// The line of an answer: its tree as JSON with no space in it, and a line feed.
-#[tactic(auto, unfolding(crate::specs::Texts::line), using(crate::proofs::NoFloat::answer_has_no_float))]
+#[tactic(auto, unfolding(crate::specs::Texts::line, crate::specs::Answers::answer_tree))]
 pub fn answer_text(alloc: Global, a: &Answer) -> Result<Text, AllocError>
+    ensures { IfOk result (λ t. t ≡ line a.now) }
+{
+    match a {
+        Answer::Surface(rows) => surface_text(alloc, rows),
+        _ => tree_text(alloc, a),
+    }
+}
+
+/// The line of an answer that isn't a surface, by way of its tree.
+#[tactic(auto, unfolding(crate::specs::Texts::line), using(crate::proofs::NoFloat::answer_has_no_float))]
+fn tree_text(alloc: Global, a: &Answer) -> Result<Text, AllocError>
+    requires { IsNoSurface a.now }
     ensures { IfOk result (λ t. t ≡ line a.now) }
 {
     let mut text = answer_tree(alloc, a)?.to_string(alloc)?;
@@ -25,6 +37,7 @@ pub fn answer_text(alloc: Global, a: &Answer) -> Result<Text, AllocError>
 
 #[tactic(auto, unfolding(crate::specs::Answers::answer_tree))]
 fn answer_tree(alloc: Global, a: &Answer) -> Result<Value, AllocError>
+    requires { IsNoSurface a.now }
     ensures { IfOk result (λ v. view v ≡ answer_tree a.now) }
 {
     match a {
@@ -34,7 +47,7 @@ fn answer_tree(alloc: Global, a: &Answer) -> Result<Value, AllocError>
         Answer::NotOpened(refusal) => refused_opening(*refusal).tree(alloc),
         Answer::Frame { info, moves, dirt } => frame_tree(alloc, info, moves, dirt),
         Answer::Released => json!(in alloc; {"released": true}),
-        Answer::Surface(rows) => surface_tree(alloc, rows),
+        Answer::Surface(_) => unreachable!(),
         Answer::Refused { refusal, buffer } => {
             refused_call(*refusal, buffer.as_ref()).tree(alloc)
         }

@@ -98,8 +98,13 @@ fn lines(rt: HostRuntime) -> Result<(), Fail> {
             r#"{"dirty":[[1,1,3,2]],"frame":{"accumulated":4294967295,"coalesced":true,"meta":40,"mouse":7,"pointer":[-1,5],"present":18446744073709551615,"protected":false,"shape":12,"visible":true},"moves":[[-2147483648,2147483647,-4,-3,-2,-1]]}"#,
         ),
     ] {
-        let text = answer_text(alloc, &answer)?.into_string();
-        assert_eq!(rt; text.as_str().strip_suffix("\n"), Some(want));
+        let mut line = String::from_str(alloc, want)?;
+        line.push('\n')?;
+        assert_eq!(rt;
+            answer_text(alloc, &answer)?.as_bytes(),
+            line.as_bytes(),
+            "{want}"
+        );
     }
     Ok(())
 }
@@ -108,6 +113,5 @@ fn lines(rt: HostRuntime) -> Result<(), Fail> {
 fn bytes_of_a_text(rt: HostRuntime) -> Result<(), Fail> {
     let text = Text::from_string(String::from_str(rt.alloc(), "{}\n")?);
     assert_eq!(rt; text.as_bytes(), [0x7b, 0x7d, 0x0a].as_slice());
-    assert!(rt; text.into_string().as_str() == "{}\n");
     Ok(())
 }
