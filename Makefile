@@ -1,5 +1,5 @@
 .POSIX:
-.PHONY: demo build test cases docs
+.PHONY: demo build test cases docs bench
 
 RT = rt
 FIRST = examples/first
@@ -39,3 +39,7 @@ cases:
 docs:
 	tools/check_docs
 	tools/gather_cases | cmp - crates/ddup_cases/stdin
+
+# Measures bin/ddup, as make build left it; docs/SPEED.md says what. Nothing in the gate rests on it.
+bench:
+	tools/bench bin/ddup

@@ -1,8 +1,8 @@
 -- What a copy of rows from one place of a grid to another leaves, row by row.
-use Rattle.std.proofs.Common.{◌≡◌, ℕ, ◌+◌, ◌-◌, ◌*◌, ◌/◌, ◌%◌, ◌<◌, ◌≤◌, Bool, true, false, ◌&&◌, cond, leb, ltb, eqb, List, length, get_or, sym, ap, ◌∙◌, inl, inr, arith}
+use Rattle.std.proofs.Common.{◌≡◌, ℕ, ◌+◌, ◌-◌, ◌*◌, ◌/◌, ◌%◌, ◌<◌, ◌≤◌, Bool, true, false, ◌&&◌, cond, leb, ltb, eqb, List, length, get_or, refl, sym, ap, ◌∙◌, inl, inr, arith}
 use Rattle.std.proofs.lemmas.Bool.{lt-ltb, le-ltb, le-leb, lt-leb, eqb-true, leb-true, ltb-true, and_from, and_left, and_right, and_parts, cond-true, cond-false, cases_lt}
 use Rattle.std.proofs.lemmas.Bool.Decides.{nat_tests}
-use Rattle.std.proofs.lemmas.Nat.{div-add-mod', mul-add-lt, div-mul-add, row_fits_turned}
+use Rattle.std.proofs.lemmas.Nat.{div-add-mod', mul-add-lt, div-mul-add, row_fits_turned, mul-le}
 use Rattle.std.specs.List.{CopiedTo, SameBelow, SameFrom}
 use Rattle.dd_geom.specs.Rect.{between, place, sides, source_x, source_y}
 use Rattle.dd_geom.specs.Grid.{scrolled, value_at}
@@ -10,7 +10,7 @@ use Rattle.dd_geom.specs.declared.rect.Move.{Move}
 use Rattle.dd_geom.specs.declared.rect.Sides.{Sides}
 use Rattle.dd_geom.proofs.GridLemmas.{column_inside, value_at-place, value_at-cell, grid_from_places}
 use Rattle.dd_geom.proofs.RectLemmas.{and_assoc, IsMoveInside}
-use Rattle.dd_geom.proofs.PaintLemmas.{run_places, one_row_more, cond_same}
+use Rattle.dd_geom.proofs.PaintLemmas.{row_gap, run_places, one_row_more, cond_same}
 
 -- the same for the rows from the last on
 one_row_before :
@@ -67,6 +67,42 @@ module _ {A : Type 0} where
               ∙ sym (cond-false _ there here (and_right _ _ (le-ltb k (dest + n) past)))
         ]
       ]
+
+  -- no cell is copied yet
+  pub run_none : (src dest n : ℕ) (old : List A) → n ≡ 0 → IsRunCopied src dest n old old
+  run_none src dest n old none = ((λ k d from to. absurd (omega arith)), (λ k d e. refl), (λ k d e. refl))
+
+  -- a run copied further, to a place before it
+  pub run_after :
+      (src dest n m : ℕ) (old now new : List A) → dest ≤ src → IsRunCopied src dest n old now
+      → IsRunCopied (src + n) (dest + n) m now new → IsRunCopied src dest (n + m) old new
+  run_after src dest n m old now new order first next = (
+    (λ k d from to. elim (cases_lt k (dest + n)) [
+      | inl early ↦ next.1 k d early ∙ first.0 k d from early
+      | inr late ↦
+          let i : ℕ = src + n + (k - (dest + n)) in
+          let source : i ≡ src + (k - dest) = omega arith in
+          next.0 k d late (omega arith) ∙ (first.2 i d (omega arith) ∙ ap (λ i. get_or old i d) source)
+    ]),
+    (λ k d below. next.1 k d (omega arith) ∙ first.1 k d below),
+    (λ k d above. next.2 k d (omega arith) ∙ first.2 k d (omega arith)),
+  )
+
+  -- a run copied from its end on, to a place after it
+  pub run_before :
+      (src dest n m from to size : ℕ) (old now new : List A)
+      → src ≤ dest → from ≡ src + m → to ≡ dest + m → size ≡ m + n → IsRunCopied from to n old now
+      → IsRunCopied src dest m now new → IsRunCopied src dest size old new
+  run_before src dest n m from to size old now new order source place long last next = (
+    (λ k d above below. elim (cases_lt k to) [
+      | inl early ↦ next.0 k d above (omega arith) ∙ last.1 (src + (k - dest)) d (omega arith)
+      | inr late ↦
+          let same : from + (k - to) ≡ src + (k - dest) = omega arith in
+          next.2 k d (omega arith) ∙ (last.0 k d late (omega arith) ∙ ap (λ i. get_or old i d) same)
+    ]),
+    (λ k d below. next.1 k d below ∙ last.1 k d (omega arith)),
+    (λ k d above. next.2 k d (omega arith) ∙ last.2 k d (omega arith)),
+  )
 
   -- a run copied to a row, whose source still reads as it was at first
   run_taken :
@@ -152,6 +188,45 @@ module _ {A : Type 0} where
       (λ i t. named w s column row y z i is)
       ∙ (ap (cond (eqb q y && (leb s.left r && ltb r s.right)) (get_or first (at r q) d)) (so_far k d e)
       ∙ one_row_before (leb s.left r && ltb r s.right) q y s.bottom (get_or first (at r q) d) (get_or first k d) up)
+
+  -- whole rows, as one run
+  pub copied_rows :
+      (w h : ℕ) (s : Sides) (row m : ℕ) (old new : List A)
+      → s.left ≡ 0 → s.right ≡ w → s.top ≤ s.bottom → length old ≡ w * h → m ≡ (s.bottom - s.top) * w
+      → IsRunCopied (row * w) (s.top * w) m old new → IsTaken w s (copied_at w s 0 row) old new
+  copied_rows w h s row m old new left right ordered long size copied k d e =
+      let q = k / w in
+      let r = k % w in
+      let place : q * w + r ≡ k = div-add-mod' k w in
+      let across : r < w = column_inside w h k (omega arith) in
+      let from = get_or old (copied_at w s 0 row r q) d in
+      let n : ℕ = s.bottom - s.top in
+      let end : s.bottom ≡ s.top + n = omega arith in
+      let last : s.bottom * w ≡ s.top * w + m = ap (λ b. b * w) end ∙ omega arith in
+      elim (cases_lt q s.top) [
+        | inl above ↦
+            let gap : q * w + w ≤ s.top * w = row_gap q s.top w above in
+            copied.1 k d (omega arith)
+            ∙ sym (cond-false (between s r q) from (get_or old k d)
+            (and_left _ _ (and_right _ _ (lt-leb s.top q above))))
+        | inr below ↦ elim (cases_lt q s.bottom) [
+          | inl inside ↦
+              let gap : q * w + w ≤ s.bottom * w = row_gap q s.bottom w inside in
+              let columns = and_from _ _ (le-leb s.left r (omega arith)) (lt-ltb r s.right (omega arith)) in
+              let t : ℕ = q - s.top in
+              let later : q ≡ s.top + t = omega arith in
+              let rows : q * w ≡ s.top * w + t * w = ap (λ b. b * w) later ∙ omega arith in
+              let source : row * w + (k - s.top * w) ≡ (t + row) * w + (r - s.left + 0) = omega arith in
+              copied.0 k d (omega arith) (omega arith)
+              ∙ (ap (λ i. get_or old i d) source
+              ∙ sym (cond-true (between s r q) from (get_or old k d)
+              (and_from _ _ (and_from _ _ columns (le-leb s.top q below)) (lt-ltb q s.bottom inside))))
+          | inr past ↦
+              let gap : s.bottom * w ≤ q * w = mul-le s.bottom w q w past (omega arith) in
+              copied.2 k d (omega arith)
+              ∙ sym (cond-false (between s r q) from (get_or old k d) (and_right _ _ (le-ltb q s.bottom past)))
+        ]
+      ]
 
   -- the cell that is copied to a point of the destination is the value at its source point
   source_cell :

@@ -28,6 +28,59 @@ fn copy_run<T: Copy>(cells: &mut [T], from: usize, size: usize, to: usize)
     }
 }
 
+/// Copies a run of cells to a place before it, block by block from the first on: no block is longer
+/// than the distance, so that none overlaps its new place.
+fn copy_blocks_forward<T: Copy>(cells: &mut [T], from: usize, size: usize, to: usize)
+    requires order { to < from }
+    requires inside { from + size ≤ length cells.old }
+    ensures length { length cells.new ≡ length cells.old }
+    ensures copied { CopiedTo cells.old cells.new from to size }
+    ensures below { SameBelow cells.old cells.new to }
+    ensures above { SameFrom cells.old cells.new (to + size) }
+{
+    let distance = from - to;
+    let mut done = 0;
+    while done < size {
+        let count = distance.min(size - done);
+        copy_run(cells, from + done, count, to + done);
+        done += count;
+    }
+}
+
+/// Copies a run of cells to a place after it, block by block from the last on.
+fn copy_blocks_backward<T: Copy>(cells: &mut [T], from: usize, size: usize, to: usize)
+    requires order { from < to }
+    requires inside { to + size ≤ length cells.old }
+    ensures length { length cells.new ≡ length cells.old }
+    ensures copied { CopiedTo cells.old cells.new from to size }
+    ensures below { SameBelow cells.old cells.new to }
+    ensures above { SameFrom cells.old cells.new (to + size) }
+{
+    let distance = to - from;
+    let mut left = size;
+    while left > 0 {
+        let count = distance.min(left);
+        left -= count;
+        copy_run(cells, from + left, count, to + left);
+    }
+}
+
+/// Copies a run of cells to another place in blocks that don't overlap.
+fn copy_blocks<T: Copy>(cells: &mut [T], from: usize, size: usize, to: usize)
+    requires source { from + size ≤ length cells.old }
+    requires destination { to + size ≤ length cells.old }
+    ensures length { length cells.new ≡ length cells.old }
+    ensures copied { CopiedTo cells.old cells.new from to size }
+    ensures below { SameBelow cells.old cells.new to }
+    ensures above { SameFrom cells.old cells.new (to + size) }
+{
+    if to < from {
+        copy_blocks_forward(cells, from, size, to);
+    } else if from < to {
+        copy_blocks_backward(cells, from, size, to);
+    }
+}
+
 /// Copies the rows one after another from the first on: where the source lies as low as `to`, or
 /// lower, no row is written before it was read.
 fn copy_from_the_top<T: Copy>(
@@ -76,7 +129,21 @@ fn copy_from_the_bottom<T: Copy>(
     }
 }
 
-/// Copies the rows in the order in which none is written before it was read.
+/// Copies whole rows, which are one run of cells.
+fn copy_rows<T: Copy>(cells: &mut [T], width: usize, height: usize, to: Sides, row: usize)
+    requires inside { AreInside to width height }
+    requires left { to.left ≡ 0 }
+    requires right { to.right ≡ width }
+    requires down { row + (to.bottom - to.top) ≤ height }
+    requires cells { length cells.old ≡ width * height }
+    ensures { IsCopied width to 0 row cells.old cells.new }
+{
+    let size = (to.bottom - to.top) * width;
+    copy_blocks(cells, row * width, size, to.top * width);
+}
+
+/// Copies whole rows in blocks, and parts of rows in the order in which none is written before it
+/// was read.
 fn copy_between<T: Copy>(
     cells: &mut [T],
     width: usize,
@@ -91,7 +158,9 @@ fn copy_between<T: Copy>(
     requires cells { length cells.old ≡ width * height }
     ensures { IsCopied width to column row cells.old cells.new }
 {
-    if to.top <= row {
+    if to.left == 0 && to.right == width {
+        copy_rows(cells, width, height, to, row);
+    } else if to.top <= row {
         copy_from_the_top(cells, width, height, to, column, row);
     } else {
         copy_from_the_bottom(cells, width, height, to, column, row);

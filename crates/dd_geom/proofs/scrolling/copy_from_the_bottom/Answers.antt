@@ -38,6 +38,7 @@ loop-y-preserved g c =
     let s = c.args.to in
     let y : ℕ = c.loop-y.y - 1 in
     let z : ℕ = y - s.top + c.args.row in
+    let copied = c.copy_run.ensures in
     let n : ℕ = s.right - s.left in
     let at = copied_at w s c.args.column c.args.row in
     let later : y + 1 ≡ c.loop-y.y = omega arith in (
@@ -46,8 +47,7 @@ loop-y-preserved g c =
       copied_before w c.args.height s y z n c.args.column c.args.row c.args.cells.now c.loop-y.cells
           c.copy_run.new.cells
           (omega arith) (omega arith) (omega arith) (omega arith) (omega arith) (omega arith) refl
-          (omega arith) (omega arith)
-          (c.copy_run.ensures.copied, c.copy_run.ensures.below, c.copy_run.ensures.above)
+          (omega arith) (omega arith) (copied.copied, copied.below, copied.above)
           (subst (λ (t : ℕ). IsTaken w (record s { top = t }) at c.args.cells.now c.loop-y.cells) (sym later)
           c.loop-y.invariant.2),
     )

@@ -16,11 +16,11 @@ loop-y-preserved g c =
     let s = c.args.to in
     let y = c.loop-y.y in
     let z : ℕ = y - s.top + c.args.row in
+    let copied = c.copy_run.ensures in
     let n : ℕ = s.right - s.left in (
       omega arith,
       copied_more w c.args.height s y z n c.args.column c.args.row c.args.cells.now c.loop-y.cells
           c.copy_run.new.cells
           (omega arith) (omega arith) (omega arith) (omega arith) (omega arith) (omega arith) refl
-          (omega arith) (omega arith)
-          (c.copy_run.ensures.copied, c.copy_run.ensures.below, c.copy_run.ensures.above) c.loop-y.invariant.1,
+          (omega arith) (omega arith) (copied.copied, copied.below, copied.above) c.loop-y.invariant.1,
     )
