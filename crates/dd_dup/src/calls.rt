@@ -22,6 +22,8 @@ pub enum DupCall {
     Release,
     /// Asks for the rows of the acquired surface.
     Surface,
+    /// Asks for the mode at the opening (GetDesc).
+    Desc,
 }
 
 /// The moves and the dirty rectangles of what is new, on memory of their own.

@@ -36,12 +36,14 @@ abbrev pub IsOfClient : ℕ → Step → Type 0
 IsOfClient n (steps.Draw d) = Unit {0}
 IsOfClient n (steps.Call k call) = (1 ≤ k) × (k ≤ n)
 
--- what a call asks of the client's duplicator; an opening asks nothing
+-- what a call asks of the client's duplicator; an opening and a closing ask nothing
 abbrev pub asks : ClientCall → Option DupCall
 asks calls.Duplicate = None
+asks calls.Close = None
 asks (calls.Acquire timeout) = Some asked.Acquire
 asks calls.Release = Some asked.Release
 asks calls.Surface = Some asked.Surface
+asks calls.Desc = Some asked.Desc
 
 -- one step more, with this list
 abbrev pub one_step_on : State → History → State

@@ -15,24 +15,29 @@ pub const MAX_CLIENTS: usize = 16;
 pub enum ClientCall {
     /// Opens a duplicator (the API's DuplicateOutput).
     Duplicate,
+    /// Gives its duplicator up, held frame or not.
+    Close,
     /// Acquires a frame (AcquireNextFrame). In one list of steps a timeout isn't looked at.
     Acquire { timeout: u32 },
     /// Releases the frame (ReleaseFrame).
     Release,
     /// Asks for the rows of the acquired surface.
     Surface,
+    /// Asks for the mode in which the duplicator was opened (GetDesc).
+    Desc,
 }
 
 impl ClientCall {
-    /// What it asks of the client's duplicator; an opening asks nothing.
+    /// What it asks of the client's duplicator; an opening and a closing ask nothing.
     pub fn asks(&self) -> Option<DupCall>
         ensures { result ≡ asked_by self.now }
     {
         match self {
-            ClientCall::Duplicate => None,
+            ClientCall::Duplicate | ClientCall::Close => None,
             ClientCall::Acquire { .. } => Some(DupCall::Acquire),
             ClientCall::Release => Some(DupCall::Release),
             ClientCall::Surface => Some(DupCall::Surface),
+            ClientCall::Desc => Some(DupCall::Desc),
         }
     }
 }
