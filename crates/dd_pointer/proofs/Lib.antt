@@ -1,2 +1,4 @@
+pub mod Cuts
+pub mod Drawn
 pub mod Examples
 pub mod Sizes

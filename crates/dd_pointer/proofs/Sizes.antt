@@ -1,8 +1,8 @@
 -- What parts without a fault say of a shape's size and of its bytes.
-use Rattle.std.proofs.Common.{◌≡◌, ℕ, ◌+◌, ◌*◌, ◌/◌, ◌≤◌, Bool, ◌&&◌, true, false, not, cond, nat_le, List, length, Option, Some, None, ◌==◌, refl, ap, ◌∙◌, arith}
+use Rattle.std.proofs.Common.{◌≡◌, ℕ, ◌+◌, ◌*◌, ◌/◌, ◌<◌, ◌≤◌, Bool, ◌&&◌, true, false, not, cond, nat_le, List, length, Option, Some, None, ◌==◌, refl, ap, ◌∙◌, arith}
 use Rattle.std.proofs.lemmas.Bool.{and_parts}
 use Rattle.std.proofs.lemmas.Bool.Decides.{nat_tests}
-use Rattle.std.proofs.lemmas.Nat.{mul-le}
+use Rattle.std.proofs.lemmas.Nat.{mul-le, row_fits_turned}
 use Rattle.dd_pointer.specs.declared.kind.Kind.{Kind}
 use Rattle.dd_pointer.specs.declared.kind.Kind.TheVariants.{Monochrome, Color, MaskedColor}
 use Rattle.dd_pointer.specs.declared.kind.TheConstants.{MAX_WIDTH, MAX_BYTES}
@@ -64,3 +64,25 @@ pub shape_is_read : ShapeIsRead
 shape_is_read s e =
     ap (λ k. read_as k s.width s.height s.hot s.bytes) (kind_of-number s.kind)
     ∙ ap (λ fault. unless fault s) e
+
+-- the byte of a pixel's bit lies in a mask
+pub mask_inside :
+    (kind : Kind) (w h : ℕ) (bytes : List ℕ) (x y : ℕ) → kind ≡ Monochrome → shape_fault kind w h bytes ≡ None
+    → x < w → y < h → y * pitch kind w + x / 8 < length bytes
+mask_inside kind w h bytes x y mono e across down =
+    let s = has_size kind w h bytes e in
+    let wide : pitch kind w ≡ (w + 7) / 8 = ap (λ k. pitch k w) mono in
+    let row : y * pitch kind w + pitch kind w ≤ pitch kind w * h =
+    row_fits_turned y (pitch kind w) (pitch kind w) h down (omega arith) in
+    let inside : x / 8 < (w + 7) / 8 = omega arith in
+    omega (arith, s.whole)
+
+-- the four bytes of a pixel lie among the bytes
+pub pixel_inside :
+    (kind : Kind) (w h : ℕ) (bytes : List ℕ) (x y : ℕ) → pitch kind w ≡ 4 * w → shape_fault kind w h bytes ≡ None
+    → x < w → y < h → y * pitch kind w + 4 * x + 4 ≤ length bytes
+pixel_inside kind w h bytes x y wide e across down =
+    let s = has_size kind w h bytes e in
+    let row : y * pitch kind w + pitch kind w ≤ pitch kind w * h =
+    row_fits_turned y (pitch kind w) (pitch kind w) h down (omega arith) in
+    omega (arith, s.whole)

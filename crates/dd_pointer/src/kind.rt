@@ -2,6 +2,7 @@
 
 ghost use Rattle.std.specs.Prelude.{◌≡◌, ◌≤◌, IsTrue, ◌*◌};
 ghost use Rattle.dd_pointer.specs.Shape.{number, kind_of, pitch, is_height, is_size, required};
+ghost use Rattle.dd_pointer.specs.Compositing.{rows_covered};
 
 /// The most columns of a shape.
 pub const MAX_WIDTH: u32 = 256;
@@ -59,6 +60,17 @@ impl Kind {
         match self {
             Kind::Monochrome => width.div_ceil(8),
             Kind::Color | Kind::MaskedColor => 4 * width,
+        }
+    }
+
+    /// The rows of the surface that a shape of this kind and height covers: a monochrome one has
+    /// two masks.
+    pub(crate) fn rows_covered(self, height: u32) -> u32
+        ensures { result ≡ rows_covered self height }
+    {
+        match self {
+            Kind::Monochrome => height / 2,
+            Kind::Color | Kind::MaskedColor => height,
         }
     }
 

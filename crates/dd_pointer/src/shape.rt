@@ -130,7 +130,8 @@ fn shape_fault(kind: Kind, width: u32, height: u32, bytes: &[u8]) -> Option<Shap
 }
 
 impl Shape {
-    ghost use Rattle.dd_pointer.specs.Shape.{IsShape, reading, IsReading, info_of};
+    ghost use Rattle.dd_pointer.specs.Shape.{IsShape, reading, IsReading, info_of, pitch};
+    ghost use Rattle.dd_pointer.specs.Compositing.{rows_covered};
 
     /// Reads a shape of the kind with this number, copying its bytes. The rows of `bytes` have
     /// `ceil(width / 8)` bytes for kind 1, and `4 * width` for kinds 2 and 4. The answer is the
@@ -170,6 +171,33 @@ impl Shape {
             pitch: self.kind.pitch(self.width),
             hot: self.hot,
         }
+    }
+
+    pub(crate) fn kind(&self) -> Kind
+        ensures kind { result ≡ self.now.kind }
+        ensures shape { IsShape self.now }
+    {
+        self.kind
+    }
+
+    pub(crate) fn width(&self) -> u32
+        ensures { result ≡ self.now.width }
+    {
+        self.width
+    }
+
+    /// The bytes of a row.
+    pub(crate) fn pitch(&self) -> usize
+        ensures { result ≡ pitch self.now.kind self.now.width }
+    {
+        self.kind.pitch(self.width) as usize
+    }
+
+    /// The rows of the surface that it covers.
+    pub(crate) fn rows(&self) -> u32
+        ensures { result ≡ rows_covered self.now.kind self.now.height }
+    {
+        self.kind.rows_covered(self.height)
     }
 
     /// The bytes, row by row.
