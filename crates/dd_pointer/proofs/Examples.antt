@@ -1,5 +1,5 @@
 -- The limits, and the definitions on small shapes, worked out by hand.
-use Rattle.std.proofs.Common.{◌≡◌, ℕ, ◌/◌, ◌*◌, pos, negsuc, List, [], ◌∷◌, Some, None, Ok, Err, refl}
+use Rattle.std.proofs.Common.{◌≡◌, ℕ, pos, negsuc, List, [], ◌∷◌, Ok, Err, refl}
 use Rattle.dd_geom.specs.declared.rect.Point.{Point}
 use Rattle.dd_geom.specs.Grid.{Grid, rows}
 use Rattle.dd_pointer.specs.declared.kind.Kind.{Kind}

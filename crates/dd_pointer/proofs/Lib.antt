@@ -1,4 +1,3 @@
-pub mod Cuts
 pub mod Drawn
 pub mod Examples
 pub mod Sizes

@@ -6,7 +6,7 @@ use Rattle.std.proofs.lemmas.Nat.{mul-le, row_fits_turned}
 use Rattle.dd_pointer.specs.declared.kind.Kind.{Kind}
 use Rattle.dd_pointer.specs.declared.kind.Kind.TheVariants.{Monochrome, Color, MaskedColor}
 use Rattle.dd_pointer.specs.declared.kind.TheConstants.{MAX_WIDTH, MAX_BYTES}
-use Rattle.dd_pointer.specs.Shape.{pitch, required, is_height, is_size, mask_fault, shape_fault, number, kind_of, read_as, unless, ShapeIsRead}
+use Rattle.dd_pointer.specs.Shape.{pitch, required, is_height, is_size, shape_fault, number, kind_of, read_as, unless, ShapeIsRead}
 use borrow.Author.Tests.{leb-true, eqb-true}
 
 no_fault :

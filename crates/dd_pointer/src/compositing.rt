@@ -4,10 +4,10 @@ ghost use Rattle.std.specs.Prelude.{◌≡◌, ℕ, ◌+◌, ◌-◌, ◌*◌, �
 ghost use Rattle.dd_geom.specs.Rect.{place};
 ghost use Rattle.dd_geom.specs.Grid.{SameSize};
 ghost use Rattle.dd_grid.specs.declared.cell.TheConstants.{COLOURS};
-ghost use Rattle.dd_grid.specs.Drawing.{colour_at};
+ghost use Rattle.dd_grid.specs.Drawing.{IsSurface, colour_at, with_colour};
 ghost use Rattle.dd_pointer.specs.Shape.{pitch};
 ghost use Rattle.dd_pointer.specs.Compositing.{mask_bit, pixel_byte, rows_covered, composited, composed};
-ghost use Rattle.dd_pointer.specs.Cutting.{spanned, IsCut, row_composed};
+ghost use Rattle.dd_pointer.specs.Cutting.{spanned, IsCut, drawn_at, row_composed};
 
 use crate::kind::Kind;
 use crate::pixel::{color, masked_color, monochrome};
@@ -85,6 +85,22 @@ fn cut(start: i32, size: u32, length: u32) -> Span
     }
 }
 
+/// The columns of the surface that a shape covers, its left side at `at.x`.
+fn columns(s: &Surface, shape: &Shape, at: Point) -> Span
+    ensures cut { IsCut result at.x shape.now.width s.now.width }
+    ensures surface { IsSurface s.now }
+{
+    cut(at.x, shape.width(), s.width())
+}
+
+/// The rows of the surface that a shape covers, its top side at `at.y`.
+fn rows(s: &Surface, shape: &Shape, at: Point) -> Span
+    ensures cut { IsCut result at.y (rows_covered shape.now.kind shape.now.height) s.now.height }
+    ensures surface { IsSurface s.now }
+{
+    cut(at.y, shape.rows(), s.height())
+}
+
 /// How far a place lies after `start`.
 fn offset(k: u32, start: i32) -> usize
     requires { start ≤ℤ pos k }
@@ -103,6 +119,20 @@ fn colour_at(s: &Surface, x: u32, y: u32) -> u32
     s.row(y)[x as usize]
 }
 
+/// Draws the pixel of a shape that lies at a point of the surface.
+fn compose_point(s: &mut Surface, shape: &Shape, at: Point, x: u32, y: u32)
+    requires x { x < s.old.width }
+    requires y { y < s.old.height }
+    requires column { IsTrue (spanned at.x shape.now.width (pos x)) }
+    requires row { IsTrue (spanned at.y (rows_covered shape.now.kind shape.now.height) (pos y)) }
+    ensures drawn { s.new ≡ with_colour s.old x y (drawn_at s.old shape.now at x y) }
+    ensures size { SameSize s.old s.new }
+{
+    let screen = colour_at(s, x, y);
+    let colour = composited(shape, offset(x, at.x), offset(y, at.y), screen);
+    s.set(x, y, colour);
+}
+
 /// Draws what of a shape lies in one row of the surface.
 fn compose_row(s: &mut Surface, shape: &Shape, at: Point, y: u32)
     requires y { y < s.old.height }
@@ -110,11 +140,9 @@ fn compose_row(s: &mut Surface, shape: &Shape, at: Point, y: u32)
     ensures drawn { s.new ≡ row_composed s.old shape.now at y }
     ensures size { SameSize s.old s.new }
 {
-    let columns = cut(at.x, shape.width(), s.width());
-    let row = offset(y, at.y);
-    for x in columns.from..columns.to {
-        let colour = composited(shape, offset(x, at.x), row, colour_at(s, x, y));
-        s.set(x, y, colour);
+    let span = columns(s, shape, at);
+    for x in span.from..span.to {
+        compose_point(s, shape, at, x, y);
     }
 }
 
@@ -124,8 +152,8 @@ pub fn compose(s: &mut Surface, shape: &Shape, at: Point)
     ensures drawn { s.new ≡ composed s.old shape.now at }
     ensures size { SameSize s.old s.new }
 {
-    let rows = cut(at.y, shape.rows(), s.height());
-    for y in rows.from..rows.to {
+    let span = rows(s, shape, at);
+    for y in span.from..span.to {
         compose_row(s, shape, at, y);
     }
 }

@@ -1,5 +1,5 @@
 -- What a pixel asks for lies among the bytes.
-use Rattle.std.proofs.Common.{◌≡◌, ◌+◌, ◌*◌, ◌/◌, ◌<◌, ap, sym, ◌∙◌, arith}
+use Rattle.std.proofs.Common.{◌≡◌, ◌+◌, ◌/◌, ap, sym, ◌∙◌, arith}
 use Rattle.dd_pointer.specs.Shape.{pitch}
 use Rattle.dd_pointer.specs.Compositing.{rows_covered}
 use Rattle.dd_pointer.proofs.Sizes.{mask_inside, pixel_inside}
