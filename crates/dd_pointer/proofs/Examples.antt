@@ -4,7 +4,7 @@ use Rattle.dd_geom.specs.declared.rect.Point.{Point}
 use Rattle.dd_geom.specs.Grid.{Grid, rows}
 use Rattle.dd_pointer.specs.declared.kind.Kind.{Kind}
 use Rattle.dd_pointer.specs.declared.kind.Kind.TheVariants.{Monochrome, Color, MaskedColor}
-use Rattle.dd_pointer.specs.declared.kind.TheConstants.{MAX_WIDTH, MAX_HEIGHT, MAX_MASK_HEIGHT}
+use Rattle.dd_pointer.specs.declared.kind.TheConstants.{MAX_WIDTH, MAX_HEIGHT, MAX_MASK_HEIGHT, MAX_BYTES}
 use Rattle.dd_pointer.specs.declared.shape.ShapeFault.TheVariants.{UnknownKind, BadSize, BadLength, BadMask}
 use Rattle.dd_pointer.specs.Shape.{PointerShape, shape_fault, reading}
 use Rattle.dd_pointer.specs.Compositing.{composited, composed, blended, channel}
@@ -17,6 +17,9 @@ max_height = refl
 
 max_mask_height : MAX_MASK_HEIGHT ≡ 512
 max_mask_height = refl
+
+max_bytes : MAX_BYTES ≡ 262144
+max_bytes = refl
 
 abbrev corner : Point
 corner = record { x = pos 0; y = pos 0 }

@@ -1,5 +1,5 @@
 -- What a shape makes of the screen: a colour of one point, channel by channel, and the picture of that.
-use Rattle.std.specs.Prelude.{ℕ, ◌+◌, ◌-◌, ◌*◌, ◌/◌, ◌%◌, ◌^◌, bit_xor, Bool, true, false, ◌==◌, if◌then◌else◌, slice_index_or, pos, ◌+ℤ◌, ◌-ℤ◌}
+use Rattle.std.specs.Prelude.{ℕ, ◌≤◌, ◌+◌, ◌-◌, ◌*◌, ◌/◌, ◌%◌, ◌^◌, bit_xor, Bool, true, false, ◌==◌, if◌then◌else◌, slice_index_or, pos, ◌+ℤ◌, ◌-ℤ◌}
 use Rattle.dd_geom.specs.declared.rect.Point.{Point}
 use Rattle.dd_geom.specs.declared.rect.Rect.{Rect}
 use Rattle.dd_geom.specs.Rect.{covers, place}
@@ -27,6 +27,16 @@ under_masks true true screen = 255 - screen
 -- a channel blended with the screen's by alpha, rounded to the nearest (DXGI_OUTDUPL_POINTER_SHAPE_TYPE_COLOR)
 abbrev pub blended : ℕ → ℕ → ℕ → ℕ
 blended alpha c screen = (alpha * c + (255 - alpha) * screen + 127) / 255
+
+-- a number of 255ths differs from so many whole ones by less than half a one
+pub record IsNearest (parts n : ℕ) : Type 0 where
+  pub above : parts ≤ 255 * n + 127
+  pub below : 255 * n ≤ parts + 127
+
+-- a blended channel is the nearest whole number to the exact one
+abbrev pub BlendedIsNearest : Type 0
+BlendedIsNearest =
+    (alpha c screen : ℕ) → IsNearest (alpha * c + (255 - alpha) * screen) (blended alpha c screen)
 
 -- a channel that replaces the screen's, or is XORed with it (DXGI_OUTDUPL_POINTER_SHAPE_TYPE_MASKED_COLOR)
 abbrev pub masked : ℕ → ℕ → ℕ → ℕ

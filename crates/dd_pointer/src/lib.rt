@@ -11,5 +11,5 @@ mod tests;
 
 pub use compositing::compose;
 pub use kind::{Kind, MAX_BYTES, MAX_HEIGHT, MAX_MASK_HEIGHT, MAX_WIDTH};
-pub use laws::shape_is_read;
+pub use laws::{blended_is_nearest, shape_is_read};
 pub use shape::{Shape, ShapeFault, ShapeInfo};

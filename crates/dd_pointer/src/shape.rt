@@ -204,6 +204,7 @@ impl Shape {
     pub fn bytes(&self) -> &[u8]
         ensures value { result.now ≡ self.now.bytes }
         ensures shape { IsShape self.now }
+        ensures few { length result.now ≤ MAX_BYTES }
     {
         self.bytes.as_slice()
     }

@@ -1,7 +1,7 @@
 //! Shapes that are read, refused, and drawn on surfaces, with values worked out by hand.
 
 use crate::ShapeFault::{BadLength, BadMask, BadSize, UnknownKind};
-use crate::{Shape, ShapeFault, ShapeInfo, compose, shape_is_read};
+use crate::{Shape, ShapeFault, ShapeInfo, blended_is_nearest, compose, shape_is_read};
 use dd_geom::Point;
 use dd_grid::{COLOURS, Surface};
 use std::process::Abort;
@@ -224,6 +224,7 @@ fn shapes_are_cut_at_the_surface(rt: HostRuntime) -> Result<(), Fail> {
 }
 
 #[test]
-fn the_law_can_be_called() {
+fn the_laws_can_be_called() {
+    blended_is_nearest();
     shape_is_read();
 }
