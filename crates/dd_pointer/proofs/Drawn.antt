@@ -65,39 +65,39 @@ part_more g b t c f fresh both =
 -- one point set
 part_point :
     (g : Grid ℕ) (f : ℕ → ℕ → ℕ → ℕ) (x y c : ℕ) → c ≡ f x y (colour_at g x y)
-    → with_colour g x y c ≡ part g (λ at_x at_y. at_x == x && at_y == y) (λ at_x at_y. f at_x at_y (colour_at g at_x at_y))
+    → with_colour g x y c ≡ part g (λ u v. u == x && v == y) (λ u v. f u v (colour_at g u v))
 part_point g f x y c e =
-    grid_from_agree g.width g.height (λ at_x at_y. cond (at_x == x && at_y == y) c (colour_at g at_x at_y))
-    (λ at_x at_y. cond (at_x == x && at_y == y) (f at_x at_y (colour_at g at_x at_y)) (colour_at g at_x at_y))
-    (λ at_x at_y across down.
-    cond_same (at_x == x && at_y == y) c (f at_x at_y (colour_at g at_x at_y)) (colour_at g at_x at_y) (λ t.
-    let both = and_parts (at_x == x) (at_y == y) t in
-    let column : x ≡ at_x = sym (eqb-true at_x x both.0) in
-    let line : y ≡ at_y = sym (eqb-true at_y y both.1) in
-    e ∙ (ap (λ n. f n y (colour_at g n y)) column ∙ ap (λ n. f at_x n (colour_at g at_x n)) line)))
+    grid_from_agree g.width g.height (λ u v. cond (u == x && v == y) c (colour_at g u v))
+    (λ u v. cond (u == x && v == y) (f u v (colour_at g u v)) (colour_at g u v))
+    (λ u v across down.
+    cond_same (u == x && v == y) c (f u v (colour_at g u v)) (colour_at g u v) (λ t.
+    let both = and_parts (u == x) (v == y) t in
+    let column : x ≡ u = sym (eqb-true u x both.0) in
+    let line : y ≡ v = sym (eqb-true v y both.1) in
+    e ∙ (ap (λ n. f n y (colour_at g n y)) column ∙ ap (λ n. f u n (colour_at g u n)) line)))
 
 -- one point more
 pub part_point_more :
     (g s : Grid ℕ) (b c : ℕ → ℕ → Bool) (f : ℕ → ℕ → ℕ → ℕ) (x y colour : ℕ)
     → s ≡ part g b (λ x y. f x y (colour_at g x y)) → colour ≡ f x y (colour_at s x y) → b x y ≡ false
-    → ((at_x at_y : ℕ) → at_x < g.width → at_y < g.height → ((at_x == x && at_y == y) || b at_x at_y) ≡ c at_x at_y)
+    → ((u v : ℕ) → u < g.width → v < g.height → ((u == x && v == y) || b u v) ≡ c u v)
     → with_colour s x y colour ≡ part g c (λ x y. f x y (colour_at g x y))
 part_point_more g s b c f x y colour so_far e fresh both =
-    let t : ℕ → ℕ → Bool = λ at_x at_y. at_x == x && at_y == y in
+    let t : ℕ → ℕ → Bool = λ u v. u == x && v == y in
     part_point s f x y colour e
-    ∙ (ap (λ n. part n t (λ at_x at_y. f at_x at_y (colour_at n at_x at_y))) so_far
+    ∙ (ap (λ n. part n t (λ u v. f u v (colour_at n u v))) so_far
     ∙ part_more g b t c f
-    (λ at_x at_y across down h.
-    let same = and_parts (at_x == x) (at_y == y) h in
-    ap (λ n. b n at_y) (eqb-true at_x x same.0) ∙ (ap (b x) (eqb-true at_y y same.1) ∙ fresh)) both)
+    (λ u v across down h.
+    let same = and_parts (u == x) (v == y) h in
+    ap (λ n. b n v) (eqb-true u x same.0) ∙ (ap (b x) (eqb-true v y same.1) ∙ fresh)) both)
 
 -- the points of a row that a loop over its columns has passed
 abbrev pub passed_columns : (ℕ → Bool) → ℕ → ℕ → ℕ → ℕ → Bool
-passed_columns spanned row x at_x at_y = at_y == row && (nat_lt at_x x && spanned at_x)
+passed_columns spanned row x u v = v == row && (nat_lt u x && spanned u)
 
 -- the points that a loop over the rows has passed
 abbrev pub passed_rows : (ℕ → Bool) → (ℕ → Bool) → ℕ → ℕ → ℕ → Bool
-passed_rows columns rows y at_x at_y = (nat_lt at_y y && rows at_y) && columns at_x
+passed_rows columns rows y u v = (nat_lt v y && rows v) && columns u
 
 -- a place more
 place_more :
@@ -145,10 +145,10 @@ in_a_row true false p = refl
 in_a_row false d p = refl
 
 pub column_more :
-    (p : ℕ → Bool) (row x at_x at_y : ℕ) → p x ≡ true
-    → ((at_x == x && at_y == row) || passed_columns p row x at_x at_y) ≡ passed_columns p row (x + 1) at_x at_y
-column_more p row x at_x at_y e =
-    in_a_row (at_x == x) (at_y == row) (nat_lt at_x x && p at_x) ∙ ap (λ b. at_y == row && b) (place_more p x at_x e)
+    (p : ℕ → Bool) (row x u v : ℕ) → p x ≡ true
+    → ((u == x && v == row) || passed_columns p row x u v) ≡ passed_columns p row (x + 1) u v
+column_more p row x u v e =
+    in_a_row (u == x) (v == row) (nat_lt u x && p u) ∙ ap (λ b. v == row && b) (place_more p x u e)
 
 of_columns : (d p s : Bool) → ((d && s) || (p && s)) ≡ ((d || p) && s)
 of_columns true p true = refl
@@ -156,11 +156,11 @@ of_columns true p false = grind (arith, nat_tests)
 of_columns false p s = refl
 
 pub row_more :
-    (columns rows : ℕ → Bool) (y at_x at_y : ℕ) → rows y ≡ true
-    → ((at_y == y && columns at_x) || passed_rows columns rows y at_x at_y) ≡ passed_rows columns rows (y + 1) at_x at_y
-row_more columns rows y at_x at_y e =
-    of_columns (at_y == y) (nat_lt at_y y && rows at_y) (columns at_x)
-    ∙ ap (λ b. b && columns at_x) (place_more rows y at_y e)
+    (columns rows : ℕ → Bool) (y u v : ℕ) → rows y ≡ true
+    → ((v == y && columns u) || passed_rows columns rows y u v) ≡ passed_rows columns rows (y + 1) u v
+row_more columns rows y u v e =
+    of_columns (v == y) (nat_lt v y && rows v) (columns u)
+    ∙ ap (λ b. b && columns u) (place_more rows y v e)
 
 -- columns and rows as a rectangle's sides
 pub as_sides : (p c d : Bool) → ((c && d) && p) ≡ ((p && c) && d)

@@ -153,7 +153,7 @@ macro_rules! drawing {
 /// A row of the screen where nothing is drawn.
 const PLAIN: [u32; 4] = [BLUE; 4];
 
-static DRAWINGS: [Drawing; 13] = [
+static DRAWINGS: [Drawing; 17] = [
     drawing!(
         "whole",
         (0, 0),
@@ -184,6 +184,17 @@ static DRAWINGS: [Drawing; 13] = [
         (1, 2),
         [PLAIN, PLAIN, [BLUE, TURNED, BLUE, BLUE]]
     ),
+    drawing!(
+        "cut at the left and the top",
+        (-1, -1),
+        [[0, BLUE, BLUE, BLUE], PLAIN, PLAIN]
+    ),
+    drawing!(
+        "cut at the right and the top",
+        (3, -1),
+        [[BLUE, BLUE, BLUE, WHITE], PLAIN, PLAIN]
+    ),
+    drawing!("cut at the left and the bottom", (-1, 2), [PLAIN; 3]),
     drawing!("left of the surface", (-2, 0), [PLAIN; 3]),
     drawing!("above it", (0, -2), [PLAIN; 3]),
     drawing!("right of it", (4, 0), [PLAIN; 3]),
@@ -197,6 +208,18 @@ static DRAWINGS: [Drawing; 13] = [
         bytes: WIDE,
         at: (-8, 2),
         rows: [PLAIN, PLAIN, [TURNED, BLUE, BLUE, BLUE]],
+    },
+    Drawing {
+        name: "the last two rows of the highest",
+        width: 1,
+        height: 512,
+        bytes: &[0x80; 512],
+        at: (1, -254),
+        rows: [
+            [BLUE, TURNED, BLUE, BLUE],
+            [BLUE, TURNED, BLUE, BLUE],
+            PLAIN,
+        ],
     },
 ];
 
