@@ -1,9 +1,10 @@
--- The numbers of the limits and of the metadata, and a small grid, scrolled over itself by the definition.
+-- The numbers of the limits and of the metadata, rectangles and a move as bytes, and a small grid, scrolled over itself.
 use Rattle.std.proofs.Common.{◌≡◌, ℕ, true, false, pos, negsuc, [], ◌∷◌, refl}
 use Rattle.dd_geom.specs.declared.rect.Rect.{Rect}
 use Rattle.dd_geom.specs.declared.rect.Move.{Move}
 use Rattle.dd_geom.specs.declared.rect.TheConstants.{MAX_SIDE, MAX_PIXELS, RECT_BYTES, MOVE_BYTES}
 use Rattle.dd_geom.specs.Rect.{is_move_inside, points}
+use Rattle.dd_geom.specs.Bytes.{rect_bytes, move_bytes, rect_of}
 use Rattle.dd_geom.specs.Grid.{Grid, rows, scrolled}
 
 -- the limits of a mode, and the bytes of a rectangle and of a move
@@ -13,17 +14,43 @@ max_side = refl
 max_pixels : MAX_PIXELS ≡ 16777216
 max_pixels = refl
 
-rect_bytes : RECT_BYTES ≡ 16
-rect_bytes = refl
+rect_size : RECT_BYTES ≡ 16
+rect_size = refl
 
-move_bytes : MOVE_BYTES ≡ 24
-move_bytes = refl
+move_size : MOVE_BYTES ≡ 24
+move_size = refl
 
 abbrev rect : ℕ → ℕ → ℕ → ℕ → Rect
 rect l t r b = record { left = pos l; top = pos t; right = pos r; bottom = pos b }
 
 abbrev move : ℕ → ℕ → Rect → Move
 move x y dest = record { source = record { x = pos x; y = pos y }; dest = dest }
+
+-- the sides in their order, each with its lowest byte first; negative ones, and the ends of 32 bits
+small_sides :
+    rect_bytes (rect 1 1 3 2)
+    ≡ 1 ∷ 0 ∷ 0 ∷ 0 ∷ 1 ∷ 0 ∷ 0 ∷ 0 ∷ 3 ∷ 0 ∷ 0 ∷ 0 ∷ 2 ∷ 0 ∷ 0 ∷ 0 ∷ []
+unfolding rect_bytes
+small_sides = refl
+
+end_sides :
+    rect_bytes (record { left = negsuc 2147483647; top = negsuc 0; right = pos 2147483647; bottom = pos 16909060 })
+    ≡ 0 ∷ 0 ∷ 0 ∷ 128 ∷ 255 ∷ 255 ∷ 255 ∷ 255 ∷ 255 ∷ 255 ∷ 255 ∷ 127 ∷ 4 ∷ 3 ∷ 2 ∷ 1 ∷ []
+unfolding rect_bytes
+end_sides = refl
+
+end_bytes :
+    rect_of (0 ∷ 0 ∷ 0 ∷ 128 ∷ 255 ∷ 255 ∷ 255 ∷ 255 ∷ 255 ∷ 255 ∷ 255 ∷ 127 ∷ 4 ∷ 3 ∷ 2 ∷ 1 ∷ [])
+    ≡ record { left = negsuc 2147483647; top = negsuc 0; right = pos 2147483647; bottom = pos 16909060 }
+unfolding rect_of
+end_bytes = refl
+
+-- the source stands before the destination
+source_first :
+    move_bytes (move 6 5 (rect 1 2 3 4))
+    ≡ 6 ∷ 0 ∷ 0 ∷ 0 ∷ 5 ∷ 0 ∷ 0 ∷ 0 ∷ 1 ∷ 0 ∷ 0 ∷ 0 ∷ 2 ∷ 0 ∷ 0 ∷ 0 ∷ 3 ∷ 0 ∷ 0 ∷ 0 ∷ 4 ∷ 0 ∷ 0 ∷ 0 ∷ []
+unfolding move_bytes rect_bytes
+source_first = refl
 
 -- the digits say the row and the column
 abbrev numbers : Grid ℕ

@@ -3,3 +3,4 @@ pub mod GridLemmas
 pub mod PaintLemmas
 pub mod RectLemmas
 pub mod ScrollLemmas
+pub mod ByteLemmas

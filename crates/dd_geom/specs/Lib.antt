@@ -1,3 +1,4 @@
 pub mod Rect
 pub mod Grid
 pub mod Scrolling
+pub mod Bytes

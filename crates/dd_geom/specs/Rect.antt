@@ -87,6 +87,12 @@ pub record FitsSides (r : Rect) : Type 0 where
   pub right : FitsSigned w32 r.right
   pub bottom : FitsSigned w32 r.bottom
 
+-- each coordinate of a move is
+pub record FitsMove (m : Move) : Type 0 where
+  pub x : FitsSigned w32 m.source.x
+  pub y : FitsSigned w32 m.source.y
+  pub dest : FitsSides m.dest
+
 -- how many points lie between a rectangle's sides
 abbrev pub points : Rect → ℕ
 points r = (place r.right - place r.left) * (place r.bottom - place r.top)

@@ -1,6 +1,7 @@
-//! Points, rectangles and moves of a surface, and what is painted inside a rectangle.
+//! Points, rectangles and moves of a surface, their bytes, and what is painted inside a rectangle.
 #![tactic(auto)]
 
+mod bytes;
 mod lists;
 mod painting;
 mod rect;
@@ -8,6 +9,10 @@ mod scrolling;
 #[cfg(test)]
 mod tests;
 
+pub use bytes::{
+    move_bytes, move_is_read, move_is_written, move_of, rect_bytes, rect_is_read, rect_is_written,
+    rect_of,
+};
 pub use lists::{Moves, Rects};
 pub use painting::paint;
 pub use rect::{

@@ -1,8 +1,8 @@
 //! Each public call once, with answers worked out by hand.
 
 use crate::{
-    Move, Moves, Point, Rect, Rects, Sides, contains, intersect, move_inside, paint, point_count,
-    rect_inside, scroll, shift, sides_of,
+    Move, Moves, Point, Rect, Rects, Sides, contains, intersect, move_bytes, move_inside, move_of,
+    paint, point_count, rect_bytes, rect_inside, rect_of, scroll, shift, sides_of,
 };
 use std::test::Fail;
 
@@ -188,4 +188,51 @@ fn lists_keep_their_vectors(rt: HostRuntime) -> Result<(), Fail> {
     assert_eq!(rt; moves.as_slice().len(), 1);
     assert_eq!(rt; moves.into_vec().len(), 1);
     Ok(())
+}
+
+#[test]
+fn rectangles_as_bytes(rt: HostRuntime) {
+    let cases = [
+        (
+            rect(1, 1, 3, 2),
+            [1, 0, 0, 0, 1, 0, 0, 0, 3, 0, 0, 0, 2, 0, 0, 0],
+        ),
+        (
+            rect(i32::MIN, -1, i32::MAX, 0x0102_0304),
+            [
+                0, 0, 0, 128, 255, 255, 255, 255, 255, 255, 255, 127, 4, 3, 2, 1,
+            ],
+        ),
+        (
+            rect(-2, 256, 65536, -65536),
+            [254, 255, 255, 255, 0, 1, 0, 0, 0, 0, 1, 0, 0, 0, 255, 255],
+        ),
+    ];
+    for (r, bytes) in cases {
+        assert_eq!(rt; rect_bytes(r), bytes);
+        assert_eq!(rt; rect_of(&bytes), r);
+    }
+}
+
+#[test]
+fn moves_as_bytes(rt: HostRuntime) {
+    let cases = [
+        (
+            step(1, 1, rect(0, 0, 2, 1)),
+            [
+                1, 0, 0, 0, 1, 0, 0, 0, 0, 0, 0, 0, 0, 0, 0, 0, 2, 0, 0, 0, 1, 0, 0, 0,
+            ],
+        ),
+        (
+            step(i32::MIN, i32::MAX, rect(1, -2, 3, 4)),
+            [
+                0, 0, 0, 128, 255, 255, 255, 127, 1, 0, 0, 0, 254, 255, 255, 255, 3, 0, 0, 0, 4, 0,
+                0, 0,
+            ],
+        ),
+    ];
+    for (m, bytes) in cases {
+        assert_eq!(rt; move_bytes(m), bytes);
+        assert_eq!(rt; move_of(&bytes), m);
+    }
 }
