@@ -1,4 +1,4 @@
-//! Each public call, on lists of a surface of 4 by 3 points with three places.
+//! Each public call, on short lists of a surface of 4 by 3 points.
 
 ghost use Rattle.std.specs.Prelude.{◌≡◌, ◌<◌, ◌≤◌, [], ◌∷◌, IfOk};
 ghost use Rattle.dd_log.specs.declared.events.Event.TheVariants.{Opened};
@@ -95,7 +95,7 @@ fn end(log: &mut Log) -> Result<(), Fail> {
     Ok(())
 }
 
-/// A list on which an application opened the first slot, and one on which it closed it too.
+/// A list on which an application opened the first slot.
 #[tactic(auto, unfolding(crate::specs::Desk::desk_of, crate::specs::Desk::first_desk))]
 fn opened(alloc: Global) -> Result<Log, Fail>
     ensures { IfOk result (λ log. log.entries
