@@ -137,7 +137,8 @@ record Steps (ms : List Mode) (es : List Entry) : Type 0 where
 step_set : (steps : List ℕ) (at actor step last : ℕ) → at < length steps → get_or steps at 0 ≡ last
     → get_or (set steps actor step) at 0 ≡ (if actor == at then step else last)
 step_set steps at actor step last within is =
-    ⊎_elim (λ (same : actor ≡ at). ap (λ n. get_or (set steps n step) at 0) same ∙ get_or-set_same steps at step 0 within
+    ⊎_elim (λ (same : actor ≡ at). ap (λ n. get_or (set steps n step) at 0) same
+    ∙ get_or-set_same steps at step 0 within
     ∙ sym (cond-true (eqb actor at) step last (eq-eqb actor at same)))
     (λ (other : actor ≡ at → ⊥). get_or-set_other steps actor at step 0 (λ (e : at ≡ actor). other (sym e)) ∙ is
     ∙ sym (cond-false (eqb actor at) step last (ne_eqb actor at other)))

@@ -1,5 +1,5 @@
 -- Legal lists: what a test of one entry more says, and what such an entry makes of the list.
-use Rattle.std.proofs.Common.{◌≡◌, ℕ, ◌+◌, ◌<◌, ◌≤◌, Bool, cond, true, false, ◌&&◌, ◌||◌, not, List, [], ◌∷◌, ◌++◌, length, take, drop, Option, Some, None, nat_lt, eqb, slice_get, sym, ap, subst, ◌∙◌, refl, append_assoc, append-nil, arith, if◌then◌else◌, ◌==◌}
+use Rattle.std.proofs.Common.{◌≡◌, ℕ, ◌+◌, ◌<◌, ◌≤◌, Bool, cond, true, false, ◌&&◌, ◌||◌, not, List, [], ◌∷◌, ◌++◌, length, take, drop, Option, Some, None, nat_lt, eqb, sym, ap, subst, ◌∙◌, refl, append_assoc, append-nil, arith, if◌then◌else◌, ◌==◌}
 use Rattle.std.specs.Prelude.{is_none, slice_index_or}
 use Rattle.std.specs.List.{list_all, position_or_len}
 use Rattle.std.specs.Prelude.{option_map}
@@ -7,7 +7,6 @@ use Rattle.std.proofs.lemmas.Bool.{and_parts, and_from, cases_lt, false≢true, 
 use Rattle.std.proofs.lemmas.List.{take-append-drop, length_push}
 use Rattle.std.proofs.lemmas.List.Folds.{position_or_len_push}
 use Rattle.std.proofs.lemmas.List.Sums.{fold_push}
-use Rattle.std.proofs.lemmas.Option.{slice_get_within}
 use Rattle.std.proofs.Math.Bool.{and-true, and-false}
 use Rattle.std.proofs.Math.ListN.{get_or-eq_default}
 use Rattle.std.proofs.Math.Logic.{⊎_elim}
@@ -26,7 +25,7 @@ use Rattle.dd_log.specs.declared.events.Draw.TheVariants as drawings
 use Rattle.dd_log.specs.declared.events.Spec.{Spec}
 use Rattle.dd_log.specs.declared.events.TheConstants.{MAX_ACTORS}
 use Rattle.dd_log.specs.Events.{operations_of, is_end}
-use Rattle.dd_log.specs.Desk.{desk_of, first_desk, finds_slot, is_free}
+use Rattle.dd_log.specs.Desk.{desk_of, first_desk, finds_slot}
 use Rattle.dd_log.specs.History.{History, with_entry, desk, desk_mode, last_step, is_full, before_end, bad_rect, bad_draw, bad_event, present_fits, event_fits, refusal, may_add, legal_after, legal, end_of, BeginningIsLegal, LegalByEntries, LegalHasRoom, EndIsLast, BeforeEndCounts}
 use Rattle.dd_log.proofs.Snoc.{by_snoc}
 use Rattle.dd_log.proofs.Desks.{ended-push, ended_tells, step_tells, len_of_steps}
@@ -55,7 +54,8 @@ may_add_of_parts h e p =
 pub may_end : (h : History) (actor step : ℕ) → (desk h).ended ≡ false → actor < MAX_ACTORS
     → last_step h.entries actor < step → may_add h (end_of actor step) ≡ true
 may_end h actor step going within past =
-    let refused : refusal h End ≡ (if is_full h && false then Some Full else None) = cond-false (desk h).ended _ _ going in
+    let refused : refusal h End ≡ (if is_full h && false then Some Full else None) =
+    cond-false (desk h).ended _ _ going in
     may_add_of_parts h (end_of actor step)
     (record {
       actor = within;
@@ -164,10 +164,12 @@ pub legal_room : (h : History) → legal h ≡ true → 1 ≤ h.spec.capacity
     → length h.entries + kept_place (desk h).ended ≤ h.spec.capacity
 unfolding desk_of first_desk
 legal_room h t some =
-    by_entries h.spec (λ (es : List Entry). length es + kept_place (desk_of h.spec.modes es).ended ≤ h.spec.capacity) some
+    by_entries h.spec (λ (es : List Entry). length es + kept_place (desk_of h.spec.modes es).ended ≤ h.spec.capacity)
+    some
     (λ (es : List Entry) (e : Entry) (s : Step (record { spec = h.spec; entries = es }) e)
     (is : length es + kept_place (desk_of h.spec.modes es).ended ≤ h.spec.capacity).
-    let room : length es + 1 ≤ h.spec.capacity = subst (λ (b : Bool). length es + kept_place b ≤ h.spec.capacity) s.allowed.going is in
+    let room : length es + 1 ≤ h.spec.capacity =
+    subst (λ (b : Bool). length es + kept_place b ≤ h.spec.capacity) s.allowed.going is in
     let more = kept_more (is_end e.event) (length es) h.spec.capacity room s.allowed.room in
     subst (λ (b : Bool). length (es ++ e ∷ []) + kept_place b ≤ h.spec.capacity) (sym (end_of_push h.spec es e s))
     (omega (arith, length_push es e, more))) h.entries t
@@ -208,7 +210,8 @@ legal_ends h t =
     by_entries h.spec (λ (es : List Entry). length es ≡ ends_at (desk_of h.spec.modes es).ended (before_end es)) refl
     (λ (es : List Entry) (e : Entry) (s : Step (record { spec = h.spec; entries = es }) e)
     (is : length es ≡ ends_at (desk_of h.spec.modes es).ended (before_end es)).
-    let all : length es ≡ before_end es = subst (λ (b : Bool). length es ≡ ends_at b (before_end es)) s.allowed.going is in
+    let all : length es ≡ before_end es =
+    subst (λ (b : Bool). length es ≡ ends_at b (before_end es)) s.allowed.going is in
     length_push es e ∙ ends_more (is_end e.event) (length es) (before_end es) all
     ∙ ap (ends_at (is_end e.event)) (sym (before_push es e all))
     ∙ ap (λ (b : Bool). ends_at b (before_end (es ++ e ∷ []))) (sym (end_of_push h.spec es e s))) h.entries t
@@ -237,7 +240,8 @@ other_step actor at step last within past is =
 pub no_step : (h : History) (actor : ℕ) → legal h ≡ true → MAX_ACTORS ≤ actor → last_step h.entries actor ≡ 0
 no_step h actor t past =
     by_entries h.spec (λ (es : List Entry). last_step es actor ≡ 0) refl
-    (λ (es : List Entry) (e : Entry) (s : Step (record { spec = h.spec; entries = es }) e) (is : last_step es actor ≡ 0).
+    (λ (es : List Entry) (e : Entry) (s : Step (record { spec = h.spec; entries = es }) e)
+    (is : last_step es actor ≡ 0).
     fold_push (λ last x. if x.actor == actor then x.step else last) 0 es e
     ∙ other_step e.actor actor e.step (last_step es actor) s.may.actor past is) h.entries t
 
@@ -247,7 +251,8 @@ pub any_step : (h : History) (actor : ℕ) → legal h ≡ true
 any_step h actor t =
     ⊎_elim (λ (within : actor < MAX_ACTORS). step_tells h.spec.modes h.entries actor within)
     (λ (past : MAX_ACTORS ≤ actor).
-    get_or-eq_default (desk h).steps 0 (omega (arith, len_of_steps h.spec.modes h.entries)) ∙ sym (no_step h actor t past))
+    get_or-eq_default (desk h).steps 0 (omega (arith, len_of_steps h.spec.modes h.entries))
+    ∙ sym (no_step h actor t past))
     (cases_lt actor MAX_ACTORS)
 
 -- a list none of whose elements fails has all of them pass
@@ -287,12 +292,3 @@ fits_mode ms mode (events.Draw d) n = draw_fits ms mode d n
 fits_mode ms mode (Opened slot app) n = refl
 fits_mode ms mode (Closed slot) n = refl
 fits_mode ms mode End n = refl
-
--- a slot that is found is one of them
-free_within : (slots : List (Option ℕ)) (slot : ℕ) (found : Option (Option ℕ)) → slice_get slots slot ≡ found
-    → is_free found ≡ true → slot < length slots
-free_within slots slot None is t = absurd (false≢true t)
-free_within slots slot (Some found) is t = slice_get_within slots slot found is
-
-pub opening_within : (slots : List (Option ℕ)) (slot app : ℕ) → finds_slot slots (Opened slot app) ≡ true → slot < length slots
-opening_within slots slot app t = free_within slots slot _ refl (and_parts (is_free (slice_get slots slot)) _ t).0

@@ -114,7 +114,8 @@ mode_same : (spec : Spec) (es : List Entry) (e : Entry) → begins_picture e.eve
     → desk_mode (listed spec (es ++ e ∷ [])) ≡ desk_mode (listed spec es)
 mode_same spec es e n = mode-push spec.modes es e ∙ mode_kept spec.modes (desk_of spec.modes es).mode e.event n
 
-goes_picture : (spec : Spec) (es : List Entry) (e : Entry) (place : ℕ) → place ≤ length es → begins_picture e.event ≡ false
+goes_picture : (spec : Spec) (es : List Entry) (e : Entry) (place : ℕ) → place ≤ length es
+    → begins_picture e.event ≡ false
     → picture (listed spec es) ≡ shown (picture (first_entries place (listed spec es))) (drop place es)
     → picture (listed spec (es ++ e ∷ []))
     ≡ shown (picture (first_entries place (listed spec (es ++ e ∷ [])))) (drop place (es ++ e ∷ []))
@@ -128,9 +129,11 @@ goes_picture spec es e place within n is =
     ∙ ap (λ (h : History). shown (picture h) (drop place (es ++ e ∷ []))) (sym (first_same spec es e place within))
 
 goes_fit : (spec : Spec) (es : List Entry) (e : Entry) (place : ℕ) → place ≤ length es → begins_picture e.event ≡ false
-    → (legal (listed spec es) ≡ true → entries_fit (desk_mode (listed spec es)).width (desk_mode (listed spec es)).height (drop place es) ≡ true)
+    → (legal (listed spec es) ≡ true
+    → entries_fit (desk_mode (listed spec es)).width (desk_mode (listed spec es)).height (drop place es) ≡ true)
     → legal (listed spec (es ++ e ∷ [])) ≡ true
-    → entries_fit (desk_mode (listed spec (es ++ e ∷ []))).width (desk_mode (listed spec (es ++ e ∷ []))).height (drop place (es ++ e ∷ [])) ≡ true
+    → entries_fit (desk_mode (listed spec (es ++ e ∷ []))).width (desk_mode (listed spec (es ++ e ∷ []))).height
+    (drop place (es ++ e ∷ [])) ≡ true
 unfolding entries_fit
 goes_fit spec es e place within n is t =
     let h : History = listed spec es in
@@ -187,7 +190,8 @@ black_more spec es e true begins is =
     ∙ cond-true (begins_picture e.event) (black_in (desk_mode more)) _ begins
 black_more spec es e false begins is =
     let start : start_of spec (es ++ e ∷ []) ≡ start_of spec es =
-    (start_marks spec.modes).more es e ∙ cond-false (begins_picture e.event) (length es + 1) (start_of spec es) begins in
+    (start_marks spec.modes).more es e
+    ∙ cond-false (begins_picture e.event) (length es + 1) (start_of spec es) begins in
     let within = (start_tells spec.modes es).within in
     ap (λ n. picture (first_entries n (listed spec (es ++ e ∷ [])))) start
     ∙ ap picture (first_same spec es e (start_of spec es) within)
@@ -208,7 +212,8 @@ begins_black h =
     record {
       within = tells.within;
       black = black_at h.spec h.entries;
-      last = sym (tells.since (desk h).picture_start) ∙ le-ltb (desk h).picture_start (desk h).picture_start (omega arith);
+      last = sym (tells.since (desk h).picture_start)
+          ∙ le-ltb (desk h).picture_start (desk h).picture_start (omega arith);
     }
 
 pub since_start : PictureSinceStart

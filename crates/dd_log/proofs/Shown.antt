@@ -27,12 +27,14 @@ SameSize-drawn_if p None = record { width = refl; height = refl }
 SameSize-drawn_if p (Some ops) = SameSize-drawn p ops
 
 IsPicture-drawn_if :
-    (p : Grid Cell) (present : Option (List Op)) → IsPicture p → present_fits p.width p.height present ≡ true → IsPicture (drawn_if p present)
+    (p : Grid Cell) (present : Option (List Op)) → IsPicture p → present_fits p.width p.height present ≡ true
+    → IsPicture (drawn_if p present)
 IsPicture-drawn_if p None is t = is
 IsPicture-drawn_if p (Some ops) is t = IsPicture-drawn p ops is t
 
 IsPicture-shown :
-    (p : Grid Cell) (es : List Entry) → IsPicture p → list_all (λ e. event_fits p.width p.height e.event) es ≡ true → IsPicture (shown p es)
+    (p : Grid Cell) (es : List Entry) → IsPicture p → list_all (λ e. event_fits p.width p.height e.event) es ≡ true
+    → IsPicture (shown p es)
 IsPicture-shown p [] is t = is
 IsPicture-shown p (e ∷ es) is t =
     let both = and_parts (event_fits p.width p.height e.event) _ t in

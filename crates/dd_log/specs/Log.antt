@@ -9,7 +9,8 @@ use Rattle.dd_log.specs.History.{History, legal}
 abbrev pub history : Inside → History
 history l = record { spec = l.spec; entries = l.entries.items }
 
--- The list is legal, the desk is what its entries make of it, its mode has a size that surfaces have, and there is memory for all entries.
+-- The list is legal, the desk is what its entries make of it, in a mode of a size that surfaces have, and there is
+-- memory for all entries.
 pub record IsKept (l : Inside) : Type 0 where
   pub legal : IsTrue (legal (history l))
   pub desk : l.desk ≡ desk_of l.spec.modes l.entries.items
