@@ -41,7 +41,8 @@ coordinate_written bytes n long small =
     let same : little_number 4 (take 4 rest) ≡ little_number 4 rest = little_from-take 0 4 4 rest (omega arith) in
     let value : little_number 4 rest ≡ from_le_bytes w32 (take 4 rest) = sym same ∙ omega arith in
     ap (λ (k : ℕ). little_bytes 4 k) (of_z-to_z w32 (little_number 4 rest) fits)
-    ∙ le_bytes_4 (take 4 rest) (little_number 4 rest) (length-take-le 4 rest enough) (byte_small (take 4 rest) front) value
+    ∙ le_bytes_4 (take 4 rest) (little_number 4 rest) (length-take-le 4 rest enough)
+    (byte_small (take 4 rest) front) value
 
 -- points and rectangles with equal coordinates are equal
 same_point : (p q : Point) → p.x ≡ q.x → p.y ≡ q.y → p ≡ q
@@ -55,7 +56,8 @@ same_rect r s left top right bottom =
     ∙ ap (λ (a : ℤ). record { left = s.left; top = s.top; right = s.right; bottom = a }) bottom
 
 -- the bytes of a point or a rectangle, read, are the point or the rectangle
-point_read : (p : Point) (rest : List ℕ) → FitsSigned w32 p.x → FitsSigned w32 p.y → point_of (point_bytes p ++ rest) ≡ p
+point_read : (p : Point) (rest : List ℕ) → FitsSigned w32 p.x → FitsSigned w32 p.y
+    → point_of (point_bytes p ++ rest) ≡ p
 point_read p rest x y =
     same_point (point_of (point_bytes p ++ rest)) p
     (coordinate_read p.x (coordinate_bytes p.y ++ rest) x)
@@ -65,7 +67,8 @@ pub rect_is_read : RectIsRead
 unfolding rect_of rect_bytes
 rect_is_read r fits =
     same_rect (rect_of (rect_bytes r)) r
-    (coordinate_read r.left (coordinate_bytes r.top ++ (coordinate_bytes r.right ++ coordinate_bytes r.bottom)) fits.left)
+    (coordinate_read r.left
+    (coordinate_bytes r.top ++ (coordinate_bytes r.right ++ coordinate_bytes r.bottom)) fits.left)
     (coordinate_read r.top (coordinate_bytes r.right ++ coordinate_bytes r.bottom) fits.top)
     (coordinate_read r.right (coordinate_bytes r.bottom) fits.right)
     (coordinate_read r.bottom [] fits.bottom)
@@ -87,32 +90,38 @@ move_is_read m fits =
     (ap rect_of (after_point m.source (rect_bytes m.dest)) ∙ rect_is_read m.dest fits.dest)
 
 -- the first bytes are those of the point or the rectangle that they are
-point_written : (bytes : List ℕ) → 8 ≤ length bytes → All (λ b. b < 256) bytes → point_bytes (point_of bytes) ≡ take 8 bytes
+point_written : (bytes : List ℕ) → 8 ≤ length bytes → All (λ b. b < 256) bytes
+    → point_bytes (point_of bytes) ≡ take 8 bytes
 point_written bytes long small =
     let x : coordinate_bytes (coordinate_at bytes 0) ≡ take 4 bytes = coordinate_written bytes 0 (omega arith) small in
-    let y : coordinate_bytes (coordinate_at bytes 4) ≡ take 4 (drop 4 bytes) = coordinate_written bytes 4 (omega arith) small in
+    let y : coordinate_bytes (coordinate_at bytes 4) ≡ take 4 (drop 4 bytes) =
+    coordinate_written bytes 4 (omega arith) small in
     ap (λ (a : List ℕ). a ++ coordinate_bytes (coordinate_at bytes 4)) x
     ∙ ap (λ (b : List ℕ). take 4 bytes ++ b) y
     ∙ sym (take-add 4 4 bytes)
 
-rect_written : (bytes : List ℕ) → 16 ≤ length bytes → All (λ b. b < 256) bytes → rect_bytes (rect_of bytes) ≡ take 16 bytes
-unfolding rect_of rect_bytes
-rect_written bytes long small =
-    let left : coordinate_bytes (coordinate_at bytes 0) ≡ take 4 bytes = coordinate_written bytes 0 (omega arith) small in
-    let top : coordinate_bytes (coordinate_at bytes 4) ≡ take 4 (drop 4 bytes) = coordinate_written bytes 4 (omega arith) small in
-    let right : coordinate_bytes (coordinate_at bytes 8) ≡ take 4 (drop 8 bytes) = coordinate_written bytes 8 (omega arith) small in
-    let bottom : coordinate_bytes (coordinate_at bytes 12) ≡ take 4 (drop 12 bytes) = coordinate_written bytes 12 (omega arith) small in
+-- four pieces of four bytes are the first sixteen
+four_pieces : (bytes a b c d : List ℕ) → a ≡ take 4 bytes → b ≡ take 4 (drop 4 bytes) → c ≡ take 4 (drop 8 bytes)
+    → d ≡ take 4 (drop 12 bytes) → a ++ (b ++ (c ++ d)) ≡ take 16 bytes
+four_pieces bytes a b c d first second third fourth =
     let last : take 8 (drop 8 bytes) ≡ take 4 (drop 8 bytes) ++ take 4 (drop 12 bytes) =
     take-add 4 4 (drop 8 bytes) ∙ ap (λ (r : List ℕ). take 4 (drop 8 bytes) ++ take 4 r) (drop-drop 4 8 bytes) in
     let most : take 12 (drop 4 bytes) ≡ take 4 (drop 4 bytes) ++ take 8 (drop 8 bytes) =
     take-add 4 8 (drop 4 bytes) ∙ ap (λ (r : List ℕ). take 4 (drop 4 bytes) ++ take 8 r) (drop-drop 4 4 bytes) in
-    ap (λ (a : List ℕ). a ++ (coordinate_bytes (coordinate_at bytes 4) ++ (coordinate_bytes (coordinate_at bytes 8) ++ coordinate_bytes (coordinate_at bytes 12)))) left
-    ∙ ap (λ (a : List ℕ). take 4 bytes ++ (a ++ (coordinate_bytes (coordinate_at bytes 8) ++ coordinate_bytes (coordinate_at bytes 12)))) top
-    ∙ ap (λ (a : List ℕ). take 4 bytes ++ (take 4 (drop 4 bytes) ++ (a ++ coordinate_bytes (coordinate_at bytes 12)))) right
-    ∙ ap (λ (a : List ℕ). take 4 bytes ++ (take 4 (drop 4 bytes) ++ (take 4 (drop 8 bytes) ++ a))) bottom
-    ∙ sym (ap (λ (a : List ℕ). take 4 bytes ++ (take 4 (drop 4 bytes) ++ a)) last)
-    ∙ sym (ap (λ (a : List ℕ). take 4 bytes ++ a) most)
-    ∙ sym (take-add 4 12 bytes)
+    rw (first, second, third, fourth)
+    (sym (ap (λ (r : List ℕ). take 4 bytes ++ (take 4 (drop 4 bytes) ++ r)) last)
+    ∙ sym (ap (λ (r : List ℕ). take 4 bytes ++ r) most)
+    ∙ sym (take-add 4 12 bytes))
+
+rect_written : (bytes : List ℕ) → 16 ≤ length bytes → All (λ b. b < 256) bytes
+    → rect_bytes (rect_of bytes) ≡ take 16 bytes
+unfolding rect_of rect_bytes
+rect_written bytes long small =
+    four_pieces bytes _ _ _ (coordinate_bytes (coordinate_at bytes 12))
+    (coordinate_written bytes 0 (omega arith) small)
+    (coordinate_written bytes 4 (omega arith) small)
+    (coordinate_written bytes 8 (omega arith) small)
+    (coordinate_written bytes 12 (omega arith) small)
 
 pub rect_is_written : RectIsWritten
 rect_is_written bytes are =
@@ -123,7 +132,8 @@ unfolding move_of move_bytes
 move_is_written bytes are =
     let count : length bytes ≡ 24 = are.count in
     let rest : rect_bytes (rect_of (drop 8 bytes)) ≡ drop 8 bytes =
-    rect_is_written (drop 8 bytes) (record { count = omega (arith, length-drop 8 bytes); small = All-drop (λ b. b < 256) 8 bytes are.small }) in
+    rect_is_written (drop 8 bytes)
+    (record { count = omega (arith, length-drop 8 bytes); small = All-drop (λ b. b < 256) 8 bytes are.small }) in
     ap (λ (a : List ℕ). a ++ rect_bytes (rect_of (drop 8 bytes))) (point_written bytes (omega arith) are.small)
     ∙ ap (λ (a : List ℕ). take 8 bytes ++ a) rest
     ∙ take-append-drop 8 bytes

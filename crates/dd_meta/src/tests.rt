@@ -58,7 +58,7 @@ const FAR: Rect = Rect {
 
 const RECTS: [Rect; 2] = [SMALL, FAR];
 
-static RECT_BYTES: [u8; 60] = [
+static BYTES_OF_RECTS: [u8; 60] = [
     1, 0, 0, 0, 1, 0, 0, 0, 3, 0, 0, 0, 2, 0, 0, 0, //
     0, 0, 0, 128, 254, 255, 255, 255, 255, 255, 255, 127, 0, 1, 0, 0, //
     0, 0, 0, 0, 0, 0, 0, 0, 0, 0, 0, 0, 0, 0, 0, 0, 0, 0, 0, 0, 0, 0, 0, 0, 0, 0, 0, 0,
@@ -79,7 +79,7 @@ fn rectangles_are_put(rt: HostRuntime) {
         let mut buffer = [FILL; 60];
         let answer = put_rects(&RECTS[..case.elements], &mut buffer[..case.room]);
         assert_eq!(rt; answer, case.answer, "{}", case.name);
-        compare(&rt, case, &buffer, &RECT_BYTES);
+        compare(&rt, case, &buffer, &BYTES_OF_RECTS);
     }
 }
 
@@ -102,7 +102,7 @@ const MOVES: [Move; 2] = [
     },
 ];
 
-static MOVE_BYTES: [u8; 60] = [
+static BYTES_OF_MOVES: [u8; 60] = [
     6, 0, 0, 0, 5, 0, 0, 0, 1, 0, 0, 0, 2, 0, 0, 0, 3, 0, 0, 0, 4, 0, 0, 0, //
     255, 255, 255, 127, 0, 0, 0, 128, 0, 0, 0, 128, 254, 255, 255, 255, 255, 255, 255, 127, 0, 1,
     0, 0, //
@@ -124,7 +124,7 @@ fn moves_are_put(rt: HostRuntime) {
         let mut buffer = [FILL; 60];
         let answer = put_moves(&MOVES[..case.elements], &mut buffer[..case.room]);
         assert_eq!(rt; answer, case.answer, "{}", case.name);
-        compare(&rt, case, &buffer, &MOVE_BYTES);
+        compare(&rt, case, &buffer, &BYTES_OF_MOVES);
     }
 }
 
@@ -141,9 +141,9 @@ fn bytes_are_put(rt: HostRuntime) {
     for case in &cases {
         assert!(rt; case.elements <= 60 && case.room <= 60);
         let mut buffer = [FILL; 60];
-        let answer = put_bytes(&RECT_BYTES[..case.elements], &mut buffer[..case.room]);
+        let answer = put_bytes(&BYTES_OF_RECTS[..case.elements], &mut buffer[..case.room]);
         assert_eq!(rt; answer, case.answer, "{}", case.name);
-        compare(&rt, case, &buffer, &RECT_BYTES);
+        compare(&rt, case, &buffer, &BYTES_OF_RECTS);
     }
 }
 

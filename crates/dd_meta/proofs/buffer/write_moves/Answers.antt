@@ -19,5 +19,6 @@ pub returns : goal.returns
 returns c =
     let ends = c.loop-i.auto.i-end in
     let place : c.loop-i.i * MOVE_BYTES ≡ MOVE_BYTES * length c.args.moves.now = omega arith in
-    put_all move_bytes c.args.moves.now c.loop-i.i (c.loop-i.i * MOVE_BYTES) c.args.buffer.now c.loop-i.buffer c.loop-i-test.false c.loop-i.invariant
+    put_all move_bytes c.args.moves.now c.loop-i.i (c.loop-i.i * MOVE_BYTES) c.args.buffer.now
+    c.loop-i.buffer c.loop-i-test.false c.loop-i.invariant
     ∙ ap (λ (n : ℕ). bytes_of_moves c.args.moves.now ++ drop n c.args.buffer.now) place

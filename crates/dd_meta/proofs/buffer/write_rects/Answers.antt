@@ -19,5 +19,6 @@ pub returns : goal.returns
 returns c =
     let ends = c.loop-i.auto.i-end in
     let place : c.loop-i.i * RECT_BYTES ≡ RECT_BYTES * length c.args.rects.now = omega arith in
-    put_all rect_bytes c.args.rects.now c.loop-i.i (c.loop-i.i * RECT_BYTES) c.args.buffer.now c.loop-i.buffer c.loop-i-test.false c.loop-i.invariant
+    put_all rect_bytes c.args.rects.now c.loop-i.i (c.loop-i.i * RECT_BYTES) c.args.buffer.now
+    c.loop-i.buffer c.loop-i-test.false c.loop-i.invariant
     ∙ ap (λ (n : ℕ). bytes_of_rects c.args.rects.now ++ drop n c.args.buffer.now) place
