@@ -19,18 +19,18 @@ passes true cause r x e = cc
 passes false cause r x e = (refl, e)
 
 -- what a granted opening found
-record Granted (h : History) (app slot : ℕ) : Type 0 where
-  here : is_away h ≡ false
-  apart : is_duplicating h app ≡ false
-  free : position is_none (desk h).slots ≡ Some slot
-  room : is_full h ≡ false
+pub record Granted (h : History) (app slot : ℕ) : Type 0 where
+  pub here : is_away h ≡ false
+  pub apart : is_duplicating h app ≡ false
+  pub free : position is_none (desk h).slots ≡ Some slot
+  pub room : is_full h ≡ false
 
 granted_free : (h : History) (found : Option ℕ) (slot : ℕ) → least_free found h ≡ Ok slot
     → (found ≡ Some slot) × (is_full h ≡ false)
 granted_free h None slot e = cc
 granted_free h (Some other) slot e = let p = passes (is_full h) _ (Ok other) slot e in (cc, p.0)
 
-granted : (h : History) (app slot : ℕ) → opening h app ≡ Ok slot → Granted h app slot
+pub granted : (h : History) (app slot : ℕ) → opening h app ≡ Ok slot → Granted h app slot
 granted h app slot e =
     let away = passes (is_away h) _ _ slot e in
     let denied = passes (is_denied h app) _ _ slot away.1 in
@@ -53,9 +53,13 @@ found_none : (b : Bool) (n : ℕ) → is_some (cond b (Some n) None) ≡ false �
 found_none true n e = cc
 found_none false n e = refl
 
+pub none_before : {A : Type 0} (p : A → Bool) (xs : List A) → is_some (position p xs) ≡ false
+    → length xs ≤ position_or_len p xs
+none_before p xs e =
+    ltb-false _ _ (found_none (nat_lt (position_or_len p xs) (length xs)) (position_or_len p xs) e)
+
 none_any : {A : Type 0} (p : A → Bool) (xs : List A) → is_some (position p xs) ≡ false → list_any p xs ≡ false
-none_any p xs e =
-    none_passes p xs (ltb-false _ _ (found_none (nat_lt (position_or_len p xs) (length xs)) (position_or_len p xs) e))
+none_any p xs e = none_passes p xs (none_before p xs e)
 
 free_slot : (s : Option ℕ) → is_none s ≡ true → is_free (Some s) ≡ true
 free_slot None e = refl
