@@ -1,9 +1,10 @@
 -- The frame that is made, and lists that begin with one that a duplicator stands on.
-use Rattle.std.proofs.Common.{◌≡◌, ℕ, zero, suc, ◌+◌, ◌-◌, ◌*◌, ◌<◌, ◌≤◌, Bool, true, false, List, [], ◌∷◌, length, take, drop, Option, Some, None, refl, sym, ap, ◌∙◌, subst, arith, if◌then◌else◌}
+use Rattle.std.proofs.Common.{◌≡◌, ℕ, zero, suc, ◌+◌, ◌-◌, ◌*◌, ◌<◌, ◌≤◌, Bool, true, false, ◌||◌, List, [], ◌∷◌, ◌++◌, length, take, drop, Option, Some, None, refl, sym, ap, ◌∙◌, subst, arith, if◌then◌else◌}
 use Rattle.std.specs.Prelude.{slice_get}
-use Rattle.std.proofs.lemmas.List.Sums.{fold-append}
-use Rattle.std.proofs.lemmas.List.{take-append-drop, take_all, take-take}
-use Rattle.std.specs.Prelude.{Ok, Err, is_some, option_map, unwrap_or}
+use Rattle.std.proofs.lemmas.Bool.{or_parts, false≢true}
+use Rattle.std.proofs.lemmas.List.{take-append-drop, take_all, take-take, drop_all, length-take}
+use Rattle.std.specs.Prelude.{Result, Ok, Err, is_some, option_map, unwrap_or}
+use Rattle.dd_log.specs.declared.answers.DupRefusal.{DupRefusal}
 use Rattle.std.specs.Option.{ok_or}
 use Rattle.dd_ops.specs.declared.operations.Op.{Op}
 use Rattle.dd_geom.proofs.GridLemmas.{grid_from_agree, value_at-grid, length-cells}
@@ -11,9 +12,8 @@ use Rattle.dd_geom.specs.Rect.{has, source_x, source_y}
 use Rattle.dd_grid.specs.Cell.{plain, covered_cell, seen_cell}
 use Rattle.dd_grid.specs.Drawing.{blank}
 use Rattle.dd_modes.specs.declared.modes.Mode.{Mode}
-use Rattle.dd_modes.specs.Modes.{first_mode}
 use Rattle.dd_log.specs.declared.events.Spec.{Spec}
-use Rattle.dd_log.specs.declared.answers.DupRefusal.TheVariants.{InvalidCall, WaitTimeout}
+use Rattle.dd_log.specs.declared.answers.DupRefusal.TheVariants.{AccessLost, InvalidCall, WaitTimeout}
 use Rattle.dd_geom.specs.Grid.{Grid}
 use Rattle.dd_grid.specs.Cell.{Cell}
 use Rattle.dd_grid.specs.Drawing.{black, seen, any_hidden, hidden_points, cell_at, image_at}
@@ -22,16 +22,17 @@ use Rattle.dd_ops.specs.declared.operations.Op.TheVariants.{Fill, Blit, Cover, S
 use Rattle.dd_ops.specs.Operations.{drawn_by, drawn}
 use Rattle.dd_acc.specs.Effects.{is_coalesced}
 use Rattle.dd_log.specs.declared.events.Entry.{Entry}
-use Rattle.dd_log.specs.History.{History, Begins, first_entries, desk_mode, entries_fit, is_opening, legal, present_of}
-use Rattle.dd_log.proofs.Legal.{legal-fit, entries_fit-drop}
+use Rattle.dd_log.specs.History.{History, Begins, first_entries, desk, desk_mode, entries_fit, is_opening, legal, present_of, cuts_off, any_begins, any_cuts_off, any_presents}
+use Rattle.dd_log.proofs.Pictures.{goes_on, begins_black, since_start}
 use Rattle.dd_acc.specs.Rebuild.{any_has, rebuild}
 use Rattle.dd_log.specs.Picture.{picture, view, shown, shown_after, drawn_if, presents}
 use Rattle.dd_dup.specs.declared.frame.Frame.{Frame}
 use Rattle.dd_dup.specs.declared.frame.News.{News}
 use Rattle.dd_dup.specs.News.{frame, frame_from, news_of, news_since, moves_of, dirt_of, news, where_any}
-use Rattle.dd_dup.specs.Reply.{Memory, granted, with_frame}
-use Rattle.dd_dup.specs.Duplicator.{Duplicator, holding, HeldRebuilds, IsExactSince, FramesRebuild, FramesAreReached}
+use Rattle.dd_dup.specs.Reply.{Memory, granted, given_news, is_lost, with_frame}
+use Rattle.dd_dup.specs.Duplicator.{Duplicator, holding, losing, HeldRebuilds, IsExactSince, FramesRebuild, FramesAreReached}
 use Rattle.dd_dup.specs.Stands.{Stands, StandsOnceOpened}
+use Rattle.dd_dup.proofs.Loss.{some_later, begins_none, opening_within, no_presents}
 use Rattle.dd_dup.proofs.Advance.{width-shown, height-shown, rebuild-news, reached-news, exact-news}
 
 pub news-coalesced : (w h place : ℕ) (hidden : Grid Bool) (es : List Entry)
@@ -49,19 +50,28 @@ news-dirt w h place hidden es = refl
 
 -- the desk's picture has the mode's size
 pub width-picture : (h : History) → (picture h).width ≡ (desk_mode h).width
-unfolding picture
-width-picture h = width-shown (black (desk_mode h).width (desk_mode h).height) h.entries
+width-picture h =
+    ap (λ (p : Grid Cell). p.width) (since_start h)
+    ∙ width-shown (black (desk_mode h).width (desk_mode h).height) (drop (desk h).picture_start h.entries)
 
 pub height-picture : (h : History) → (picture h).height ≡ (desk_mode h).height
-unfolding picture
-height-picture h = height-shown (black (desk_mode h).width (desk_mode h).height) h.entries
+height-picture h =
+    ap (λ (p : Grid Cell). p.height) (since_start h)
+    ∙ height-shown (black (desk_mode h).width (desk_mode h).height) (drop (desk h).picture_start h.entries)
 
--- the entries from a place on bring the picture of that place forward
-pub picture_forward : (h : History) (m : ℕ) → shown (picture (first_entries m h)) (drop m h.entries) ≡ picture h
-unfolding picture
-picture_forward h m =
-    sym (fold-append _ (black (desk_mode h).width (desk_mode h).height) (take m h.entries) (drop m h.entries))
-    ∙ ap (shown (black (desk_mode h).width (desk_mode h).height)) (take-append-drop m h.entries)
+-- the same of a mark from which on no picture begins
+pub width-mark : (h : History) (m : ℕ) → any_begins (news h m) ≡ false
+    → (picture (first_entries m h)).width ≡ (desk_mode h).width
+width-mark h m none = width-picture (first_entries m h) ∙ ap (λ (c : Mode). c.width) (goes_on h m none).mode
+
+pub height-mark : (h : History) (m : ℕ) → any_begins (news h m) ≡ false
+    → (picture (first_entries m h)).height ≡ (desk_mode h).height
+height-mark h m none = height-picture (first_entries m h) ∙ ap (λ (c : Mode). c.height) (goes_on h m none).mode
+
+-- the entries from such a mark on bring the picture of the mark forward
+pub picture_forward : (h : History) (m : ℕ) → any_begins (news h m) ≡ false
+    → shown (picture (first_entries m h)) (drop m h.entries) ≡ picture h
+picture_forward h m none = sym (goes_on h m none).picture
 
 pub picture_all : (h : History) → picture h ≡ picture (first_entries (length h.entries) h)
 picture_all h =
@@ -76,37 +86,51 @@ first_entries_later h later m begins m_in =
     ∙ ap (λ es. record { spec = h.spec; entries = es })
     (sym (take-take m (length h.entries) later.entries m_in) ∙ ap (take m) begins.entries)
 
+-- and is it, with more entries
+entries_later : (h later : History) → Begins h later
+    → later.entries ≡ h.entries ++ drop (length h.entries) later.entries
+entries_later h later begins =
+    sym (take-append-drop (length h.entries) later.entries)
+    ∙ ap (λ es. es ++ drop (length h.entries) later.entries) begins.entries
+
+-- a loss is one in each list that begins with the list
+lost_later : (h later : History) (k : ℕ) → Begins h later → k ≤ length h.entries
+    → any_cuts_off (drop k h.entries) ≡ true → any_cuts_off (drop k later.entries) ≡ true
+lost_later h later k begins within some =
+    ap (λ es. any_cuts_off (drop k es)) (entries_later h later begins)
+    ∙ some_later (λ (e : Entry). cuts_off e.event) k h.entries (drop (length h.entries) later.entries) within some
+
 get_later : (es : List Entry) (k n : ℕ) → k < n → slice_get (take n es) k ≡ slice_get es k
 get_later es k zero k_in = absurd (omega arith)
 get_later [] k (suc n) k_in = refl
 get_later (e ∷ es) zero (suc n) k_in = refl
 get_later (e ∷ es) (suc k) (suc n) k_in = get_later es k n (omega arith)
 
--- an opening lies in the list
+-- an opening
 abbrev opens : Option Entry → Bool
 opens entry = unwrap_or (option_map (λ e. is_opening e.event) entry) false
-
-opening_within : (es : List Entry) (k : ℕ) → opens (slice_get es k) ≡ true → k < length es
-opening_within [] k t = let f : false ≡ true = t in cc
-opening_within (e ∷ es) zero t = omega arith
-opening_within (e ∷ es) (suc k) t = let r = opening_within es k t in omega arith
 
 -- a duplicator that stands on a list stands on each that begins with it
 pub stands_later : (d : Duplicator) (h later : History) → Stands d h → Begins h later → Stands d later
 stands_later d h later stands begins =
-    let opened_in : d.memory.opened < length h.entries = opening_within h.entries d.memory.opened stands.opened in
+    let o : ℕ = d.memory.opened in
+    let opened_in : o < length h.entries = opening_within h.entries o stands.opened in
     let marked = stands.marked in
     let grows = begins.within in
     let same = first_entries_later h later d.memory.mark begins marked in
+    let opened_same = first_entries_later h later o begins (omega arith) in
     record {
       opened =
-          ap opens (sym (get_later later.entries d.memory.opened (length h.entries) opened_in))
-          ∙ ap (λ es. opens (slice_get es d.memory.opened)) begins.entries
+          ap opens (sym (get_later later.entries o (length h.entries) opened_in))
+          ∙ ap (λ es. opens (slice_get es o)) begins.entries
           ∙ stands.opened;
       marked = omega arith;
-      mode = stands.mode ∙ ap (λ (s : Spec). first_mode s.modes) (sym begins.spec);
+      began = ap (λ (k : History). any_begins (drop d.memory.mark k.entries)) opened_same ∙ stands.began;
+      mode = stands.mode ∙ ap desk_mode (sym opened_same);
       hidden = stands.hidden ∙ ap (λ (e : History). hidden_points (picture e)) (sym same);
       surface = stands.surface ∙ ap view (sym same);
+      lost = λ t. lost_later h later (o + 1) begins (omega arith) (stands.lost t);
+      free = stands.free;
       folded = stands.folded;
     }
 
@@ -116,10 +140,6 @@ seen-black w h =
     grid_from_agree w h _ _
     (λ x y across down. sym (ap seen_cell (value_at-grid (plain 0) w h (λ a b. plain 0) x y across down)))
 
-black_at_first : (h : History) → picture (first_entries 0 h) ≡ black (desk_mode h).width (desk_mode h).height
-unfolding picture
-black_at_first h = refl
-
 -- nor has it a hidden point
 hidden-black : (w h : ℕ) → nowhere w h ≡ hidden_points (black w h)
 hidden-black w h =
@@ -128,32 +148,50 @@ hidden-black w h =
     (value_at-grid (plain 0) w h (λ a b. plain 0) x y across down)))
 
 -- a duplicator that was opened at a place, and has seen nothing yet
-abbrev pub opened_at : ℕ → Mode → Grid ℕ → Grid Bool → Duplicator
-opened_at place mode s hidden = record {
-  memory = record { opened = place; mark = 0; held = None };
+abbrev pub opened_at : ℕ → ℕ → Mode → Grid ℕ → Grid Bool → Duplicator
+opened_at place mark mode s hidden = record {
+  memory = record { opened = place; mark = mark; held = None; lost = false };
   surface = s;
   hidden = hidden;
   mode = mode;
   folded = 0;
 }
 
-pub stands_fresh : (h : History) (place : ℕ) (mode : Mode) (s : Grid ℕ) (hidden : Grid Bool) → mode ≡ desk_mode h
+-- the list that another begins with
+begins_is : (h later : History) (place : ℕ) → place ≡ length h.entries → Begins h later → first_entries place later ≡ h
+begins_is h later place place_is begins =
+    ap (λ n. first_entries n later) place_is
+    ∙ (ap (λ (s : Spec). record { spec = s; entries = take (length h.entries) later.entries }) begins.spec
+    ∙ ap (λ es. record { spec = h.spec; entries = es }) begins.entries)
+
+pub stands_fresh : (h : History) (place mark : ℕ) (mode : Mode) (s : Grid ℕ) (hidden : Grid Bool)
+    → place ≡ length h.entries → mark ≡ (desk h).picture_start → mode ≡ desk_mode h
     → s ≡ blank mode.width mode.height → hidden ≡ nowhere mode.width mode.height
-    → StandsOnceOpened (opened_at place mode s hidden) h
-stands_fresh h place mode s hidden mode_is s_is hidden_is later begins opens =
-    let still : mode ≡ desk_mode later = mode_is ∙ ap (λ (c : Spec). first_mode c.modes) (sym begins.spec) in
-    let shows : black mode.width mode.height ≡ picture (first_entries 0 later) =
-    ap (λ (m : Mode). black m.width m.height) still ∙ sym (black_at_first later) in
+    → StandsOnceOpened (opened_at place mark mode s hidden) h
+stands_fresh h place mark mode s hidden place_is mark_is mode_is s_is hidden_is later begins opens =
+    let black_then = begins_black h in
+    let within : mark ≤ length h.entries = omega (arith, black_then.within) in
+    let first = begins_is h later place place_is begins in
+    let shows : black mode.width mode.height ≡ picture (first_entries mark later) =
+    ap (λ (m : Mode). black m.width m.height) mode_is
+    ∙ (sym black_then.black
+    ∙ (ap (λ n. picture (first_entries n h)) (sym mark_is)
+    ∙ ap picture (sym (first_entries_later h later mark begins within)))) in
     record {
       opened = opens;
-      marked = omega arith;
-      mode = still;
+      marked = omega (arith, begins.within);
+      began =
+          ap (λ (k : History). any_begins (drop mark k.entries)) first
+          ∙ (ap (λ n. any_begins (drop n h.entries)) mark_is ∙ black_then.last);
+      mode = mode_is ∙ ap desk_mode (sym first);
       hidden = hidden_is ∙ hidden-black mode.width mode.height ∙ ap hidden_points shows;
       surface = s_is ∙ seen-black mode.width mode.height ∙ ap seen shows;
+      lost = λ t. cc;
+      free = λ t. refl;
       folded = omega arith;
     }
 
--- what was granted is what was to be given
+-- what was granted is what was to be given, to a duplicator that isn't lost
 granted_for : {A : Type 0} (m : Memory) (ps : List (List Op)) (given other : A)
     → (if is_some m.held then Err InvalidCall else ok_or (where_any ps given) WaitTimeout) ≡ Ok other → given ≡ other
 granted_for m ps given other e = by_held (is_some m.held) ps e where
@@ -163,20 +201,38 @@ granted_for m ps given other e = by_held (is_some m.held) ps e where
   by_held false [] e = cc
   by_held false (p ∷ ps) e = cc
 
+granted_of : {A : Type 0} (lost : Bool) (r : Result A DupRefusal) (other : A)
+    → (if lost then Err AccessLost else r) ≡ Ok other → (lost ≡ false) × (r ≡ Ok other)
+granted_of true r other e = cc
+granted_of false r other e = (refl, e)
+
 pub granted_is : {A : Type 0} (m : Memory) (h : History) (given other : A) → granted m h given ≡ Ok other
     → given ≡ other
-granted_is m h given other e = granted_for m (presents (news h m.mark)) given other e
+granted_is m h given other e =
+    granted_for m (presents (news h m.mark)) given other (granted_of (is_lost m h) _ other e).1
+
+pub granted_kept : {A : Type 0} (m : Memory) (h : History) (given other : A) → granted m h given ≡ Ok other
+    → is_lost m h ≡ false
+granted_kept m h given other e =
+    (granted_of (is_lost m h) (if is_some m.held then Err InvalidCall else given_news m h given) other e).0
+
+-- a duplicator that isn't lost wasn't told so, and no picture began since its mark
+pub kept_parts : (d : Duplicator) (h : History) → Stands d h → is_lost d.memory h ≡ false
+    → (d.memory.lost ≡ false) × (any_begins (news h d.memory.mark) ≡ false)
+kept_parts d h stands kept =
+    let both = or_parts d.memory.lost (any_cuts_off (drop (d.memory.opened + 1) h.entries)) kept in
+    (both.0, begins_none d h stands both.1)
 
 -- the entries from a mark on bring what is seen and what is hidden forward
-pub seen_forward : (h : History) (m : ℕ) (es : List Entry) → es ≡ news h m
+pub seen_forward : (h : History) (m : ℕ) (es : List Entry) → any_begins (news h m) ≡ false → es ≡ news h m
     → seen (shown (picture (first_entries m h)) es) ≡ view h
-seen_forward h m es is =
-    ap seen (ap (shown (picture (first_entries m h))) is ∙ picture_forward h m)
+seen_forward h m es none is =
+    ap seen (ap (shown (picture (first_entries m h))) is ∙ picture_forward h m none)
 
-pub hidden_forward : (h : History) (m : ℕ) (es : List Entry) → es ≡ news h m
+pub hidden_forward : (h : History) (m : ℕ) (es : List Entry) → any_begins (news h m) ≡ false → es ≡ news h m
     → hidden_points (shown (picture (first_entries m h)) es) ≡ hidden_points (picture h)
-hidden_forward h m es is =
-    ap hidden_points (ap (shown (picture (first_entries m h))) is ∙ picture_forward h m)
+hidden_forward h m es none is =
+    ap hidden_points (ap (shown (picture (first_entries m h))) is ∙ picture_forward h m none)
 
 -- a picture that is drawn has a cell for each point
 whole-drawn_by : (p : Grid Cell) (op : Op) → length (drawn_by p op).cells ≡ (drawn_by p op).width * (drawn_by p op).height
@@ -207,33 +263,36 @@ whole-shown p [] whole = whole
 whole-shown p (e ∷ es) whole = whole-shown (shown_after p e.event) es (whole-drawn_if p (present_of e.event) whole)
 
 pub whole-picture : (h : History) → IsFull (picture h)
-unfolding picture
 whole-picture h =
-    whole-shown (black (desk_mode h).width (desk_mode h).height) h.entries
-    (length-cells (desk_mode h).width (desk_mode h).height (λ _ _. plain 0))
+    subst IsFull (sym (since_start h))
+    (whole-shown (black (desk_mode h).width (desk_mode h).height) (drop (desk h).picture_start h.entries)
+    (length-cells (desk_mode h).width (desk_mode h).height (λ _ _. plain 0)))
 
 -- what the entries from a mark on tell is what is new since it
-pub told_news : (h : History) (m : ℕ) (mode : Mode) (es : List Entry) (n : Option News) → es ≡ news h m
-    → mode ≡ desk_mode h
+pub told_news : (h : History) (m : ℕ) (mode : Mode) (es : List Entry) (n : Option News)
+    → any_begins (news h m) ≡ false → es ≡ news h m → mode ≡ desk_mode h
     → n ≡ where_any (presents es)
     (news_of mode.width mode.height m (hidden_points (shown (picture (first_entries m h)) es)) es)
     → where_any (presents (news h m)) (news_since h m) ≡ n
-told_news h m mode es n es_are mode_is n_is =
+told_news h m mode es n none es_are mode_is n_is =
     let k = desk_mode h in
     let now : Grid Bool = hidden_points (picture h) in
     sym
     (n_is
     ∙ (ap (λ (g : Grid Bool). where_any (presents es) (news_of mode.width mode.height m g es))
-    (hidden_forward h m es es_are)
+    (hidden_forward h m es none es_are)
     ∙ (ap (λ (c : Mode). where_any (presents es) (news_of c.width c.height m now es)) mode_is
     ∙ ap (λ (xs : List Entry). where_any (presents xs) (news_of k.width k.height m now xs)) es_are)))
 
--- what is granted where no frame is held and there are presents
-pub granted_where_any : {A : Type 0} (m : Memory) (h : History) (given told : A) → is_some m.held ≡ false
-    → where_any (presents (news h m.mark)) given ≡ Some told → granted m h given ≡ Ok told
-granted_where_any {A} m h given told free is =
-    ap (λ b. if b then Err InvalidCall else ok_or (where_any (presents (news h m.mark)) given) WaitTimeout) free
-    ∙ ap (λ (o : Option A). ok_or o WaitTimeout) is
+-- what is given where there are presents, and where there is none
+pub given_where_any : {A : Type 0} (m : Memory) (h : History) (given told : A)
+    → where_any (presents (news h m.mark)) given ≡ Some told → given_news m h given ≡ Ok told
+given_where_any {A} m h given told is = ap (λ (o : Option A). ok_or o WaitTimeout) is
+
+pub given_none : {A : Type 0} (m : Memory) (h : History) (given : A) → any_presents (news h m.mark) ≡ false
+    → given_news m h given ≡ Err WaitTimeout
+given_none m h given none =
+    ap (λ (ps : List (List Op)). ok_or (where_any ps given) WaitTimeout) (no_presents (news h m.mark) none)
 
 -- the frame that is made of what is new
 pub news-hidden : (w h place : ℕ) (hidden : Grid Bool) (es : List Entry) → (news_of w h place hidden es).hidden ≡ hidden
@@ -268,48 +327,77 @@ holds d h mark f s hidden folded mark_is f_is s_is hidden_is folded_is =
     ∙ (ap (λ (g : Grid Bool). changed d (length h.entries) (frame h d.memory.mark) (view h) g folded) hidden_is
     ∙ ap (changed d (length h.entries) (frame h d.memory.mark) (view h) (hidden_points (picture h))) folded_is)))
 
-pub stands_holding : (d : Duplicator) (h : History) → Stands d h → Stands (holding d h) h
-stands_holding d h stands = record {
+pub stands_holding : (d : Duplicator) (h : History) → Stands d h → d.memory.lost ≡ false → Stands (holding d h) h
+stands_holding d h stands kept = record {
   opened = stands.opened;
   marked = omega arith;
+  began =
+      ap any_begins
+      (drop_all (length h.entries) (take d.memory.opened h.entries)
+      (omega (arith, length-take d.memory.opened h.entries)));
   mode = stands.mode;
   hidden = ap hidden_points (picture_all h);
   surface = ap seen (picture_all h);
+  lost = stands.lost;
+  free = λ t. absurd (false≢true (sym kept ∙ t));
   folded = omega (arith, stands.folded, stands.marked);
+}
+
+-- a duplicator that was told that it is lost
+lost_by : (told some : Bool) → (told ≡ true → some ≡ true) → (told || some) ≡ true → some ≡ true
+lost_by true some e t = e refl
+lost_by false some e t = t
+
+pub stands_losing : (d : Duplicator) (h : History) → Stands d h → is_lost d.memory h ≡ true → Stands (losing d) h
+stands_losing d h stands t = record {
+  opened = stands.opened;
+  marked = stands.marked;
+  began = stands.began;
+  mode = stands.mode;
+  hidden = stands.hidden;
+  surface = stands.surface;
+  lost = λ _. lost_by d.memory.lost (any_cuts_off (drop (d.memory.opened + 1) h.entries)) stands.lost t;
+  free = λ _. refl;
+  folded = stands.folded;
 }
 
 -- the frame's dirt is where the entries of its interval drew
 pub reached : FramesAreReached
-reached h mark t exact x y e =
+reached h mark t none rounded x y e =
     let w = (desk_mode h).width in
     let k = (desk_mode h).height in
     let es = news h mark in
-    reached-news w k es x y (sym (news-coalesced w k mark (hidden_points (picture h)) es) ∙ exact)
-    (entries_fit-drop w k h.entries mark (legal-fit h t)) (ap (λ rs. any_has rs x y) (sym (news-dirt w k mark (hidden_points (picture h)) es)) ∙ e)
+    let hidden = hidden_points (picture h) in
+    reached-news w k es x y (sym (news-coalesced w k mark hidden es) ∙ rounded) ((goes_on h mark none).fit t)
+    (ap (λ rs. any_has rs x y) (sym (news-dirt w k mark hidden es)) ∙ e)
 
 -- and exactly there, where none of it was rounded
-pub exact : (h : History) (mark : ℕ) → legal h ≡ true → IsExactSince (Some (frame h mark)) h mark
-exact h mark t kept =
+pub exact : (h : History) (mark : ℕ) → legal h ≡ true → any_begins (news h mark) ≡ false
+    → IsExactSince (Some (frame h mark)) h mark
+exact h mark t none kept =
     let w = (desk_mode h).width in
     let k = (desk_mode h).height in
     let es = news h mark in
-    news-dirt w k mark (hidden_points (picture h)) es
-    ∙ exact-news w k es (sym (news-coalesced w k mark (hidden_points (picture h)) es) ∙ kept) (entries_fit-drop w k h.entries mark (legal-fit h t))
+    let hidden = hidden_points (picture h) in
+    news-dirt w k mark hidden es
+    ∙ exact-news w k es (sym (news-coalesced w k mark hidden es) ∙ kept) ((goes_on h mark none).fit t)
 
 -- a frame rebuilds what is seen at the end of its interval
 pub rebuilds : FramesRebuild
-rebuilds h mark t =
+rebuilds h mark t none =
     let p : Grid Cell = picture (first_entries mark h) in
     let es = news h mark in
-    let ahead = picture_forward h mark in
+    let ahead = picture_forward h mark none in
     let w = (desk_mode h).width in
     let k = (desk_mode h).height in
-    let wide : p.width ≡ w = width-picture (first_entries mark h) in
-    let high : p.height ≡ k = height-picture (first_entries mark h) in
-    let fit : entries_fit w k es ≡ true = entries_fit-drop w k h.entries mark (legal-fit h t) in
-    ap (λ ms. rebuild (seen p) ms (frame h mark).dirt (view h)) (news-moves w k mark (hidden_points (picture h)) es)
+    let hidden = hidden_points (picture h) in
+    let wide : p.width ≡ w = width-mark h mark none in
+    let high : p.height ≡ k = height-mark h mark none in
+    let fit : entries_fit w k es ≡ true = (goes_on h mark none).fit t in
+    ap (λ ms. rebuild (seen p) ms (frame h mark).dirt (view h)) (news-moves w k mark hidden es)
     ∙ (ap (λ rs. rebuild (seen p) (moves_of es) rs (view h))
-    (news-dirt w k mark (hidden_points (picture h)) es ∙ (ap (λ n. dirt_of n k es) (sym wide) ∙ ap (λ n. dirt_of p.width n es) (sym high)))
+    (news-dirt w k mark hidden es
+    ∙ (ap (λ n. dirt_of n k es) (sym wide) ∙ ap (λ n. dirt_of p.width n es) (sym high)))
     ∙ (ap (λ (q : Grid Cell). rebuild (seen p) (moves_of es) (dirt_of p.width p.height es) (seen q)) (sym ahead)
     ∙ (rebuild-news p es
     (subst (λ (n : ℕ). entries_fit n p.height es ≡ true) (sym wide)
@@ -317,7 +405,8 @@ rebuilds h mark t =
     ∙ ap seen ahead)))
 
 pub rebuilds_held : (d : Duplicator) (h : History) → Stands d h → legal h ≡ true
+    → any_begins (news h d.memory.mark) ≡ false
     → HeldRebuilds d.surface (holding d h).memory.held (holding d h).surface
-rebuilds_held d h stands t =
+rebuilds_held d h stands t none =
     ap (λ s. rebuild s (frame h d.memory.mark).moves (frame h d.memory.mark).dirt (view h)) stands.surface
-    ∙ rebuilds h d.memory.mark t
+    ∙ rebuilds h d.memory.mark t none

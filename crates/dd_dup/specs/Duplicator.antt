@@ -1,5 +1,5 @@
 -- A duplicator's value, as contracts see it.
-use Rattle.std.specs.Prelude.{◌≡◌, ℕ, ◌+◌, ◌-◌, Bool, true, false, List, [], length, Option, Some, None, option_map}
+use Rattle.std.specs.Prelude.{◌≡◌, ℕ, ◌+◌, ◌-◌, Bool, true, false, List, [], length, Option, Some, None, option_map, Result, Ok, Err}
 use Rattle.dd_geom.specs.declared.rect.Rect.{Rect}
 use Rattle.dd_geom.specs.declared.rect.Move.{Move}
 use Rattle.dd_geom.specs.Grid.{Grid, grid}
@@ -9,12 +9,14 @@ use Rattle.dd_modes.specs.declared.modes.Mode.{Mode}
 use Rattle.dd_acc.specs.Effects.{all_effects, any_reaches, drawn_afresh}
 use Rattle.dd_acc.specs.Rebuild.{any_has, rebuild}
 use Rattle.dd_log.specs.declared.answers.FrameInfo.{FrameInfo}
+use Rattle.dd_log.specs.declared.answers.DupRefusal.{DupRefusal}
+use Rattle.dd_log.specs.declared.answers.DupRefusal.TheVariants.{AccessLost}
 use Rattle.dd_log.specs.declared.events.Entry.{Entry}
-use Rattle.dd_log.specs.History.{History, desk_mode, first_entries, legal}
+use Rattle.dd_log.specs.History.{History, desk_mode, first_entries, legal, any_begins}
 use Rattle.dd_log.specs.Picture.{presents, picture, view}
 use Rattle.dd_dup.specs.declared.frame.Frame.{Frame}
 use Rattle.dd_dup.specs.News.{news, frame}
-use Rattle.dd_dup.specs.Reply.{Memory, with_frame, without_frame}
+use Rattle.dd_dup.specs.Reply.{Memory, with_frame, without_frame, lost_memory}
 
 -- its memory, its own surface, the points that are hidden there, the mode that it was opened in, and how many entries
 -- it has drawn
@@ -35,9 +37,21 @@ holding d h = record d {
   folded = d.folded + (length h.entries - d.memory.mark);
 }
 
--- after a release
+-- after a release, and after it was told that it is lost
 abbrev pub released : Duplicator → Duplicator
 released d = record d { memory = without_frame d.memory }
+
+abbrev pub losing : Duplicator → Duplicator
+losing d = record d { memory = lost_memory d.memory }
+
+-- after a refusal: it is lost where that was the cause, or else as before
+abbrev pub IsRefusedBy : DupRefusal → Duplicator → Duplicator → Type 0
+IsRefusedBy AccessLost old new = new ≡ losing old
+IsRefusedBy cause old new = new ≡ old
+
+abbrev pub IsRefused : {A : Type 0} → Result A DupRefusal → Duplicator → Duplicator → Type 0
+IsRefused (Ok x) old new = Unit {0}
+IsRefused (Err cause) old new = IsRefusedBy cause old new
 
 -- the surface that is lent: none where no frame is held
 abbrev pub lent : Duplicator → Option (Grid ℕ)
@@ -81,13 +95,15 @@ IsExact w h held es =
 abbrev pub IsExactSince : Option Frame → History → ℕ → Type 0
 IsExactSince held h mark = IsExact (desk_mode h).width (desk_mode h).height held (news h mark)
 
--- For each legal list and each mark: what was seen at the mark, with the frame's moves drawn in order and then its
--- dirty points copied from what is seen at the end, is what is seen at the end.
+-- For each legal list and each mark from which on no picture begins: what was seen at the mark, with the frame's moves
+-- drawn in order and then its dirty points copied from what is seen at the end, is what is seen at the end.
 abbrev pub FramesRebuild : Type 0
 FramesRebuild =
-    (h : History) (mark : ℕ) → legal h ≡ true
+    (h : History) (mark : ℕ) → legal h ≡ true → any_begins (news h mark) ≡ false
     → rebuild (view (first_entries mark h)) (frame h mark).moves (frame h mark).dirt (view h) ≡ view h
 
 -- and the frame's dirt is where the entries of its interval drew
 abbrev pub FramesAreReached : Type 0
-FramesAreReached = (h : History) (mark : ℕ) → legal h ≡ true → IsReached (Some (frame h mark)) (news h mark)
+FramesAreReached =
+    (h : History) (mark : ℕ) → legal h ≡ true → any_begins (news h mark) ≡ false
+    → IsReached (Some (frame h mark)) (news h mark)

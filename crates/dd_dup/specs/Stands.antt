@@ -1,18 +1,22 @@
 -- When a duplicator fits a list.
-use Rattle.std.specs.Prelude.{◌≡◌, ◌≤◌, true, length}
+use Rattle.std.specs.Prelude.{◌≡◌, ◌+◌, ◌≤◌, true, false, length, take, drop, None}
 use Rattle.dd_grid.specs.Drawing.{hidden_points}
-use Rattle.dd_log.specs.History.{History, Begins, desk_mode, first_entries, opens_at}
+use Rattle.dd_log.specs.History.{History, Begins, desk_mode, first_entries, opens_at, any_begins, any_cuts_off}
 use Rattle.dd_log.specs.Picture.{picture, view}
 use Rattle.dd_dup.specs.Duplicator.{Duplicator}
 
--- The duplicator was opened in the list, its mark lies in it, its mode is the desk's, and its surface and the hidden
--- points are those of the desk at its mark. It has drawn no entry twice.
+-- The duplicator was opened in the list, and its mark lies in it. No picture began from the mark up to the opening. Its
+-- mode is the desk's at the opening, and its surface and the hidden points are those of the desk at its mark. Where it
+-- is lost there is a cause in the list, and no frame is held. It has drawn no entry twice.
 pub record Stands (d : Duplicator) (h : History) : Type 0 where
   pub opened : opens_at h d.memory.opened ≡ true
   pub marked : d.memory.mark ≤ length h.entries
-  pub mode : d.mode ≡ desk_mode h
+  pub began : any_begins (drop d.memory.mark (take d.memory.opened h.entries)) ≡ false
+  pub mode : d.mode ≡ desk_mode (first_entries d.memory.opened h)
   pub hidden : d.hidden ≡ hidden_points (picture (first_entries d.memory.mark h))
   pub surface : d.surface ≡ view (first_entries d.memory.mark h)
+  pub lost : d.memory.lost ≡ true → any_cuts_off (drop (d.memory.opened + 1) h.entries) ≡ true
+  pub free : d.memory.lost ≡ true → d.memory.held ≡ None
   pub folded : d.folded ≤ d.memory.mark
 
 -- it stands on each list that begins with this one and has its opening there

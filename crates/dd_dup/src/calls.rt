@@ -2,7 +2,7 @@
 
 ghost use Rattle.std.specs.Prelude.{◌≡◌, IfOk, OnOk, OnErr, IsOk, IsSome};
 ghost use Rattle.dd_geom.specs.Grid.{rows};
-ghost use Rattle.dd_dup.specs.Reply.{acquire_reply, acquire_memory, acquire_answer, release_reply, release_answer, without_frame, surface_reply};
+ghost use Rattle.dd_dup.specs.Reply.{acquire_reply, acquire_memory, acquire_answer, release_reply, release_memory, release_answer, surface_reply, desc_reply};
 ghost use Rattle.dd_dup.specs.Stands.{Stands};
 
 use crate::duplicator::Dup;
@@ -62,15 +62,18 @@ pub(crate) fn acquire(alloc: Global, dup: &mut Dup, log: &Log) -> Result<Answer,
             Ok(Answer::Frame { info, moves, dirt })
         }
         Err(DupRefusal::OutOfMemory) => Err(AllocError),
-        Err(refusal) => Ok(refused(refusal)),
+        Err(refusal) => {
+            dup.refuse(log, refusal);
+            Ok(refused(refusal))
+        }
     }
 }
 
 /// Releases the frame.
 pub(crate) fn release(dup: &mut Dup, log: &Log) -> Answer
     requires { Stands dup.old log.now }
-    ensures answer { result ≡ release_answer (release_reply dup.old.memory) }
-    ensures memory { dup.new.memory ≡ without_frame dup.old.memory }
+    ensures answer { result ≡ release_answer (release_reply dup.old.memory log.now) }
+    ensures memory { dup.new.memory ≡ release_memory dup.old.memory log.now }
     ensures stands { Stands dup.new log.now }
 {
     match dup.release(log) {
@@ -102,4 +105,13 @@ pub(crate) fn surface(alloc: Global, dup: &Dup, log: &Log) -> Result<Answer, All
         None => Ok(Answer::Surface(None)),
         Some(surface) => Ok(Answer::Surface(Some(rows_of(alloc, surface)?))),
     }
+}
+
+/// The mode at the opening.
+pub(crate) fn desc(dup: &Dup, log: &Log) -> Answer
+    requires { Stands dup.now log.now }
+    ensures { result ≡ Answer.Desc (desc_reply dup.now.memory log.now) }
+{
+    let _ = log;
+    Answer::Desc(dup.desc())
 }

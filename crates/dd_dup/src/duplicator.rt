@@ -1,8 +1,8 @@
 //! A duplicator, which looks at the list and answers its client.
 
-ghost use Rattle.std.specs.Prelude.{◌≡◌, Ok, Err, IsTrue, IfOk, OnOk, OnErr, length, option_map};
+ghost use Rattle.std.specs.Prelude.{◌≡◌, Ok, Err, IsTrue, IfOk, OnOk, OnErr, length, false, option_map};
 
-use crate::calls::{DupCall, acquire, release, surface};
+use crate::calls::{DupCall, acquire, desc, release, surface};
 use crate::forward::draw_entries;
 use crate::frame::{Frame, Hidden, News, frame_of};
 use crate::news::tell;
@@ -25,6 +25,7 @@ pub struct Dup {
     surface: Surface,
     hidden: Hidden,
     held: Option<Frame>,
+    lost: bool,
     folded: u64,
 }
 
@@ -39,17 +40,19 @@ impl Model for Dup {
 }
 
 impl Dup {
-    ghost use Rattle.dd_log.specs.History.{legal};
+    ghost use Rattle.dd_log.specs.declared.answers.DupRefusal.TheVariants.{AccessLost};
+    ghost use Rattle.dd_log.specs.History.{desk, legal, any_begins};
     ghost use Rattle.dd_log.specs.Picture.{view};
     ghost use Rattle.dd_dup.specs.News.{news, news_since, frame};
-    ghost use Rattle.dd_dup.specs.Reply.{fresh_memory, granted, release_reply, reply, call_takes_memory, Answers, IsNewsOr};
-    ghost use Rattle.dd_dup.specs.Duplicator.{holding, released, lent, held_moves, held_dirt, held_info, HeldRebuilds, IsReached, IsExactSince};
+    ghost use Rattle.dd_dup.specs.Reply.{fresh_memory, granted, given_news, is_lost, release_reply, reply, call_takes_memory, Answers, IsNewsOr};
+    ghost use Rattle.dd_dup.specs.Duplicator.{holding, released, lent, IsRefused, IsRefusedBy, held_moves, held_dirt, held_info, HeldRebuilds, IsReached, IsExactSince};
     ghost use Rattle.dd_dup.specs.Stands.{Stands, StandsOnceOpened};
 
     /// A duplicator that is opened at place `at`, the list's length. It stands on each list that
     /// begins with this one and has its opening there.
     pub fn start(alloc: Global, log: &Log, at: u64) -> Result<Dup, AllocError>
-        requires { at ≡ length log.now.entries }
+        requires at { at ≡ length log.now.entries }
+        requires going { (desk log.now).ended ≡ false }
         ensures memory { IfOk result (λ d. d.memory ≡ fresh_memory log.now at) }
         ensures stands { IfOk result (λ d. StandsOnceOpened d log.now) }
     {
@@ -59,23 +62,34 @@ impl Dup {
         Ok(Dup {
             alloc,
             opened: at,
-            mark: 0,
+            mark: log.picture_start(),
             mode,
             surface,
             hidden,
             held: None,
+            lost: false,
             folded: 0,
         })
     }
 
-    /// What an acquire would tell as new, or why it is refused. It changes nothing, and takes all
-    /// memory that an acquire takes; `hold` does the rest. A refusal takes none.
-    pub fn next_news(&self, log: &Log) -> Result<News, DupRefusal>
+    /// Whether the duplicator is lost: it was told so, or the mode changed, the desktop was switched or
+    /// the session was disconnected after its opening.
+    fn is_lost(&self, log: &Log) -> bool
         requires { Stands self.now log.now }
-        ensures { IsNewsOr result (granted self.now.memory log.now (news_since log.now self.now.memory.mark)) }
+        ensures value { result ≡ is_lost self.now.memory log.now }
+        ensures begins { result ≡ false → any_begins (news log.now self.now.memory.mark) ≡ false }
     {
-        if self.held.is_some() {
-            return Err(DupRefusal::InvalidCall);
+        self.lost || log.cut_off_since(self.opened)
+    }
+
+    /// What is new, which a frame that is granted tells. It takes all memory that an acquire takes.
+    fn look(&self, log: &Log) -> Result<News, DupRefusal>
+        requires stands { Stands self.now log.now }
+        requires begins { any_begins (news log.now self.now.memory.mark) ≡ false }
+        ensures { IsNewsOr result (given_news self.now.memory log.now (news_since log.now self.now.memory.mark)) }
+    {
+        if !log.presented_since(self.mark) {
+            return Err(DupRefusal::WaitTimeout);
         }
         let entries = log.after(self.mark);
         match tell(self.alloc, log.mode(), &self.hidden, self.mark, entries)? {
@@ -84,9 +98,25 @@ impl Dup {
         }
     }
 
+    /// What an acquire would tell as new, or why it is refused. It changes nothing, and takes all
+    /// memory that an acquire takes; `hold` does the rest. A refusal takes none.
+    pub fn next_news(&self, log: &Log) -> Result<News, DupRefusal>
+        requires { Stands self.now log.now }
+        ensures { IsNewsOr result (granted self.now.memory log.now (news_since log.now self.now.memory.mark)) }
+    {
+        if self.is_lost(log) {
+            return Err(DupRefusal::AccessLost);
+        }
+        if self.held.is_some() {
+            return Err(DupRefusal::InvalidCall);
+        }
+        self.look(log)
+    }
+
     /// Takes the frame of what is new.
     fn take(&mut self, log: &Log, next: News) -> FrameInfo
         requires stands { Stands self.old log.now }
+        requires begins { any_begins (news log.now self.old.memory.mark) ≡ false }
         requires next { next ≡ news_since log.now self.old.memory.mark }
         ensures info { result ≡ (frame log.now self.old.memory.mark).info }
         ensures held { self.new ≡ holding self.old log.now }
@@ -119,14 +149,30 @@ impl Dup {
         self.take(log, next)
     }
 
+    /// Tells the duplicator of a refusal: it is lost for good, and its frame is gone, where that is the
+    /// cause.
+    pub(crate) fn refuse(&mut self, log: &Log, cause: DupRefusal)
+        requires stands { Stands self.old log.now }
+        requires lost { cause ≡ AccessLost → IsTrue (is_lost self.old.memory log.now) }
+        ensures refused { IsRefusedBy cause self.old self.new }
+        ensures stands_still { Stands self.new log.now }
+    {
+        let _ = log;
+        if matches!(cause, DupRefusal::AccessLost) {
+            self.held = None;
+            self.lost = true;
+        }
+    }
+
     /// Acquires a frame of what is new (AcquireNextFrame).
     ///
-    /// A frame that is held is InvalidCall; no present since the mark is WaitTimeout. A refusal
-    /// changes nothing, want of memory too.
+    /// A duplicator that is lost is AccessLost, and from then on holds no frame; a frame that is held is
+    /// InvalidCall; no present since the mark is WaitTimeout. No other refusal changes anything, nor
+    /// does want of memory.
     pub fn acquire(&mut self, log: &Log) -> Result<FrameInfo, DupRefusal>
         requires { Stands self.old log.now }
         ensures answer { Answers result self.old.memory self.new.memory log.now }
-        ensures err { OnErr result (self.new ≡ self.old) }
+        ensures refused { IsRefused result self.old self.new }
         ensures stands { Stands self.new log.now }
         // The surface is what is seen of the desk, and the frame rebuilds it from the one before.
         // Its dirt, where it wasn't rounded, is where something was drawn or scrolled to, and exactly
@@ -136,19 +182,28 @@ impl Dup {
         ensures reached { OnOk result (IsReached self.new.memory.held (news log.now self.old.memory.mark)) }
         ensures honest { OnOk result (IsExactSince self.new.memory.held log.now self.old.memory.mark) }
     {
-        let next = self.next_news(log)?;
-        Ok(self.hold(log, next))
+        match self.next_news(log) {
+            Ok(next) => Ok(self.hold(log, next)),
+            Err(cause) => {
+                self.refuse(log, cause);
+                Err(cause)
+            }
+        }
     }
 
-    /// Releases the held frame (ReleaseFrame); with none it is InvalidCall, and nothing changes.
+    /// Releases the held frame (ReleaseFrame). A duplicator that is lost is AccessLost, and from then on
+    /// holds no frame; with no frame it is InvalidCall, and nothing changes.
     pub fn release(&mut self, log: &Log) -> Result<(), DupRefusal>
         requires { Stands self.old log.now }
-        ensures answer { result ≡ release_reply self.old.memory }
+        ensures answer { result ≡ release_reply self.old.memory log.now }
         ensures ok { OnOk result (self.new ≡ released self.old) }
-        ensures err { OnErr result (self.new ≡ self.old) }
+        ensures refused { IsRefused result self.old self.new }
         ensures stands { Stands self.new log.now }
     {
-        let _ = log;
+        if self.is_lost(log) {
+            self.refuse(log, DupRefusal::AccessLost);
+            return Err(DupRefusal::AccessLost);
+        }
         if self.held.is_none() {
             return Err(DupRefusal::InvalidCall);
         }
@@ -171,6 +226,7 @@ impl Dup {
             DupCall::Acquire => acquire(alloc, self, log),
             DupCall::Release => Ok(release(self, log)),
             DupCall::Surface => surface(alloc, self, log),
+            DupCall::Desc => Ok(desc(self, log)),
         }
     }
 

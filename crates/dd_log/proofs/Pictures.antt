@@ -22,7 +22,7 @@ use Rattle.dd_log.specs.declared.events.Spec.{Spec}
 use Rattle.dd_log.specs.Events.{draws_anew, begins_picture, loses, cuts_off, any_begins, any_cuts_off}
 use Rattle.dd_log.specs.Desk.{first_desk, desk_after, desk_of, mode_drawn, mode_after}
 use Rattle.dd_log.specs.History.{History, first_entries, desk, desk_mode, entries_fit, event_fits, legal}
-use Rattle.dd_log.specs.Picture.{State, first_state, state_after, state_of, picture, picture_after, shown, shown_after, blank, GoesOn, PictureGoesOn, PictureBegins, PictureSinceStart}
+use Rattle.dd_log.specs.Picture.{State, first_state, state_after, state_of, picture, picture_after, shown, shown_after, black_in, GoesOn, PictureGoesOn, PictureBegins, PictureSinceStart}
 use Rattle.dd_log.proofs.Snoc.{by_snoc, take-past, any_drop_push}
 use Rattle.dd_log.proofs.Desks.{desk-push, mode-push, start_marks, start_tells}
 use Rattle.dd_log.proofs.Legal.{legal_before, parts_of_may_add, allowed_by, fits_mode}
@@ -174,7 +174,7 @@ abbrev start_of : Spec → List Entry → ℕ
 start_of spec es = (desk_of spec.modes es).picture_start
 
 abbrev BlackAt : Spec → List Entry → Type 0
-BlackAt spec es = picture (first_entries (start_of spec es) (listed spec es)) ≡ blank (desk_mode (listed spec es))
+BlackAt spec es = picture (first_entries (start_of spec es) (listed spec es)) ≡ black_in (desk_mode (listed spec es))
 
 black_more : (spec : Spec) (es : List Entry) (e : Entry) (b : Bool) → begins_picture e.event ≡ b
     → BlackAt spec es → BlackAt spec (es ++ e ∷ [])
@@ -184,14 +184,14 @@ black_more spec es e true begins is =
     (start_marks spec.modes).more es e ∙ cond-true (begins_picture e.event) (length es + 1) (start_of spec es) begins in
     ap picture (first_all spec (es ++ e ∷ []) (start_of spec (es ++ e ∷ [])) (omega (arith, start, length_push es e)))
     ∙ picture-push spec es e
-    ∙ cond-true (begins_picture e.event) (blank (desk_mode more)) _ begins
+    ∙ cond-true (begins_picture e.event) (black_in (desk_mode more)) _ begins
 black_more spec es e false begins is =
     let start : start_of spec (es ++ e ∷ []) ≡ start_of spec es =
     (start_marks spec.modes).more es e ∙ cond-false (begins_picture e.event) (length es + 1) (start_of spec es) begins in
     let within = (start_tells spec.modes es).within in
     ap (λ n. picture (first_entries n (listed spec (es ++ e ∷ [])))) start
     ∙ ap picture (first_same spec es e (start_of spec es) within)
-    ∙ is ∙ ap blank (sym (mode_same spec es e begins))
+    ∙ is ∙ ap black_in (sym (mode_same spec es e begins))
 
 black_first : (spec : Spec) → BlackAt spec []
 unfolding picture state_of desk_of first_desk

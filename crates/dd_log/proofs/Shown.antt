@@ -11,7 +11,7 @@ use Rattle.dd_ops.specs.Operations.{drawn, drawn_by}
 use Rattle.dd_ops.proofs.Pictures.{IsPicture-drawn, SameSize-drawn_by}
 use Rattle.dd_log.specs.declared.events.Entry.{Entry}
 use Rattle.dd_log.specs.History.{History, desk, desk_mode, legal, present_of, present_fits, event_fits, entries_fit}
-use Rattle.dd_log.specs.Picture.{drawn_if, shown, picture, blank, LegalIsShown}
+use Rattle.dd_log.specs.Picture.{drawn_if, shown, picture, black_in, LegalIsShown}
 use Rattle.dd_log.proofs.Pictures.{goes_on, begins_black, since_start}
 
 -- operations keep a picture's size
@@ -42,12 +42,12 @@ IsPicture-shown p (e ∷ es) is t =
 
 -- what is drawn since the last picture began, black, is a picture
 IsPicture-picture :
-    (h : History) → IsPicture (blank (desk_mode h)) → legal h ≡ true → IsPicture (picture h)
+    (h : History) → IsPicture (black_in (desk_mode h)) → legal h ≡ true → IsPicture (picture h)
 unfolding entries_fit
 IsPicture-picture h is t =
     let start = (desk h).picture_start in
     let on = goes_on h start (begins_black h).last in
-    subst IsPicture (sym (since_start h)) (IsPicture-shown (blank (desk_mode h)) (drop start h.entries) is (on.fit t))
+    subst IsPicture (sym (since_start h)) (IsPicture-shown (black_in (desk_mode h)) (drop start h.entries) is (on.fit t))
 
 pub legal_shows : LegalIsShown
 legal_shows h size t =

@@ -31,12 +31,12 @@ abbrev pub shown : Grid Cell → List Entry → Grid Cell
 shown p es = fold (λ q e. shown_after q e.event) p es
 
 -- the black picture of a mode
-abbrev pub blank : Mode → Grid Cell
-blank mode = black mode.width mode.height
+abbrev pub black_in : Mode → Grid Cell
+black_in mode = black mode.width mode.height
 
 -- the picture after one event more, in the mode that stands then
 abbrev pub picture_after : Mode → Grid Cell → Event → Grid Cell
-picture_after mode p e = if begins_picture e then blank mode else shown_after p e
+picture_after mode p e = if begins_picture e then black_in mode else shown_after p e
 
 -- the desk, and its picture
 pub record State : Type 0 where
@@ -44,7 +44,7 @@ pub record State : Type 0 where
   pub picture : Grid Cell
 
 abbrev pub first_state : List Mode → State
-first_state modes = record { desk = first_desk modes; picture = blank (first_desk modes).mode }
+first_state modes = record { desk = first_desk modes; picture = black_in (first_desk modes).mode }
 
 -- after one entry more: the picture changes with the mode
 abbrev pub state_after : List Mode → State → Entry → State
@@ -84,7 +84,7 @@ PictureGoesOn = (h : History) (place : ℕ) → any_begins (drop place h.entries
 -- where the last picture begins it is black, and none begins later
 pub record BeginsBlack (h : History) (place : ℕ) : Type 0 where
   pub within : place ≤ length h.entries
-  pub black : picture (first_entries place h) ≡ blank (desk_mode h)
+  pub black : picture (first_entries place h) ≡ black_in (desk_mode h)
   pub last : any_begins (drop place h.entries) ≡ false
 
 abbrev pub PictureBegins : Type 0
@@ -92,4 +92,4 @@ PictureBegins = (h : History) → BeginsBlack h (desk h).picture_start
 
 -- what stands before the place where the last picture begins doesn't matter
 abbrev pub PictureSinceStart : Type 0
-PictureSinceStart = (h : History) → picture h ≡ shown (blank (desk_mode h)) (drop (desk h).picture_start h.entries)
+PictureSinceStart = (h : History) → picture h ≡ shown (black_in (desk_mode h)) (drop (desk h).picture_start h.entries)

@@ -32,28 +32,38 @@ depth-within [] y h = omega arith
 depth-within (b ∷ bs) y h =
     omega (arith, All-head (λ c. c.bottom ≤ y) b bs h, depth-within bs y (All-tail (λ c. c.bottom ≤ y) b bs h))
 
-pub depth-push : (bs : List Band) (b : Band) → bands_depth (bs ++ b ∷ []) ≡ max (bands_depth bs) b.bottom
-depth-push [] b = omega arith
-depth-push (c ∷ bs) b = omega (arith, depth-push bs b)
+pub depth-append : (bs more : List Band) → bands_depth (bs ++ more) ≡ max (bands_depth bs) (bands_depth more)
+depth-append [] more = omega arith
+depth-append (b ∷ bs) more = omega (arith, depth-append bs more)
 
--- one band more: above it is what was, and its rows have its runs
+depth-push : (bs : List Band) (b : Band) → bands_depth (bs ++ b ∷ []) ≡ max (bands_depth bs) b.bottom
+depth-push bs b = omega (arith, depth-append bs (b ∷ []))
+
+-- further bands: above them is what was
 pub runs_at-above :
-    (runs : List Run) (bs : List Band) (b : Band) (y : ℕ) → y < bands_depth bs
-    → runs_at runs (bs ++ b ∷ []) y ≡ runs_at runs bs y
-runs_at-above runs [] b y l = absurd (omega arith)
-runs_at-above runs (c ∷ bs) b y l =
+    (runs : List Run) (bs more : List Band) (y : ℕ) → y < bands_depth bs
+    → runs_at runs (bs ++ more) y ≡ runs_at runs bs y
+runs_at-above runs [] more y l = absurd (omega arith)
+runs_at-above runs (c ∷ bs) more y l =
     elim (cases_lt y c.bottom) [
       | inl h ↦ cond-true _ _ _ (lt-ltb y c.bottom h) ∙ sym (cond-true _ _ _ (lt-ltb y c.bottom h))
-      | inr h ↦ cond-false _ _ _ (le-ltb y c.bottom h) ∙ runs_at-above runs bs b y (omega arith)
+      | inr h ↦ cond-false _ _ _ (le-ltb y c.bottom h) ∙ runs_at-above runs bs more y (omega arith)
           ∙ sym (cond-false _ _ _ (le-ltb y c.bottom h))
     ]
 
-pub runs_at-last :
+-- and below what was are theirs
+pub runs_at-below :
+    (runs : List Run) (bs more : List Band) (y : ℕ) → bands_depth bs ≤ y
+    → runs_at runs (bs ++ more) y ≡ runs_at runs more y
+runs_at-below runs [] more y l = refl
+runs_at-below runs (c ∷ bs) more y l =
+    cond-false _ _ _ (le-ltb y c.bottom (omega arith)) ∙ runs_at-below runs bs more y (omega arith)
+
+runs_at-last :
     (runs : List Run) (bs : List Band) (b : Band) (y : ℕ) → bands_depth bs ≤ y → y < b.bottom
     → runs_at runs (bs ++ b ∷ []) y ≡ band_runs runs b
-runs_at-last runs [] b y l u = cond-true _ _ _ (lt-ltb y b.bottom u)
-runs_at-last runs (c ∷ bs) b y l u =
-    cond-false _ _ _ (le-ltb y c.bottom (omega arith)) ∙ runs_at-last runs bs b y (omega arith) u
+runs_at-last runs bs b y l u =
+    runs_at-below runs bs (b ∷ []) y l ∙ cond-true _ _ _ (lt-ltb y b.bottom u)
 
 -- further runs change no band
 band_runs-longer : (runs more : List Run) (b : Band) → IsBand runs b → band_runs (runs ++ more) b ≡ band_runs runs b
@@ -62,14 +72,14 @@ band_runs-longer runs more b is =
     ∙ take-append-le (b.end - b.start) (drop b.start runs) more
     (omega (arith, is.order, is.within, length-drop b.start runs))
 
-IsBand-longer : (runs more : List Run) (b : Band) → IsBand runs b → IsBand (runs ++ more) b
+pub IsBand-longer : (runs more : List Run) (b : Band) → IsBand runs b → IsBand (runs ++ more) b
 IsBand-longer runs more b is = record {
   order = is.order;
   within = omega (arith, is.within, length-append runs more);
   row = subst IsRow (sym (band_runs-longer runs more b is)) is.row;
 }
 
-runs_at-longer :
+pub runs_at-longer :
     (runs more : List Run) (bs : List Band) (y : ℕ) → All (IsBand runs) bs
     → runs_at (runs ++ more) bs y ≡ runs_at runs bs y
 runs_at-longer runs more [] y h = refl
@@ -110,7 +120,7 @@ HasBandMore-push old new row b is row_is deep runs_is bands_is start end =
       rows = subst (λ r. All (IsBand r) new.bands.items) (sym runs_is)
           (subst (All (IsBand (runs ++ row))) (sym bands_is) more);
       deep = ap bands_depth bands_is ∙ omega (arith, depth-push bands b, deep);
-      above = λ y l. same y ∙ runs_at-above (runs ++ row) bands b y l ∙ runs_at-longer runs row bands y is;
+      above = λ y l. same y ∙ runs_at-above (runs ++ row) bands (b ∷ []) y l ∙ runs_at-longer runs row bands y is;
       last = λ y l u. same y ∙ runs_at-last (runs ++ row) bands b y l u ∙ band;
     }
 
@@ -194,7 +204,8 @@ HasBandMore-longer old new i j bottom d k is n at e deep runs_is bands_is =
           (record { order = k_is.order; within = k_is.within; row = k_is.row }) is));
       deep = ap bands_depth (bands_is ∙ after) ∙ omega (arith, depth-push above longer, deep_was, deep);
       above = λ y l. elim (cases_lt y (bands_depth above)) [
-        | inl a ↦ same y ∙ runs_at-above runs above longer y a ∙ sym (runs_at-above runs above k y a) ∙ sym (was y)
+        | inl a ↦ same y ∙ runs_at-above runs above (longer ∷ []) y a
+            ∙ sym (runs_at-above runs above (k ∷ []) y a) ∙ sym (was y)
         | inr a ↦ same y ∙ runs_at-last runs above longer y a (omega (arith, deep_was, deep, l))
             ∙ sym (runs_at-last runs above k y a (omega (arith, deep_was, l))) ∙ sym (was y)
       ];

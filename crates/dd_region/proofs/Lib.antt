@@ -1,6 +1,7 @@
 pub mod RowLemmas
 pub mod WindowLemmas
 pub mod BandLemmas
+pub mod CarryLemmas
 pub mod KeptLemmas
 pub mod ListLemmas
 pub mod BandList

@@ -18,8 +18,9 @@ use std::marker::Model;
 ///
 /// The bands cover all rows of the surface, and each begins where the one above it ends. A row has
 /// its runs from left to right, none of them empty and no two of them touching. A band that is
-/// written with the runs of the one above it makes that one longer, so there are few; but nothing
-/// rests on it that two bands that follow each other differ.
+/// written with the runs of the one above it makes that one longer, and those that a change leaves
+/// are carried over as they were, so there are few; but nothing rests on it that two bands that
+/// follow each other differ.
 ///
 /// Each change is written beside what stands, and takes its place when it is complete. So a call
 /// that gets no memory leaves the set, and the memory of one change serves the next.

@@ -2,6 +2,7 @@
 #![tactic(auto)]
 
 mod bands;
+mod carry;
 mod listing;
 mod rows;
 mod run;

@@ -67,9 +67,10 @@ impl Rows {
     }
 
     /// The band of row `y`, where none of those before the band `from` has it.
-    fn find(&self, y: usize, from: usize) -> usize
+    pub fn find(&self, y: usize, from: usize) -> usize
         requires row { y < depth self.now }
         requires passed { ArePassed self.now from y }
+        ensures later { from ≤ result }
         ensures within { result < length self.now.bands.items }
         ensures passed { ArePassed self.now result y }
         ensures found { (d : Band) → y < (slice_index_or self.now.bands.items result d).bottom }

@@ -6,6 +6,7 @@ ghost use Rattle.dd_region.specs.Runs.{in_runs, IsRow, BeginBy};
 ghost use Rattle.dd_region.specs.Rows.{row_at, depth, AreRows, ArePassed, has_point, AreWithin, HavePoints};
 ghost use Rattle.dd_region.specs.Sweep.{inside_has, with_patch, IsPatch, IsSourcePassed, HasRowsOf, HasPatch};
 
+use crate::carry::carry;
 use crate::rows::Rows;
 use crate::run::{Run, Window, copy_runs, push_run};
 use dd_geom::{MAX_SIDE, Sides};
@@ -183,16 +184,16 @@ fn copy_rows(new: &mut Rows, old: &Rows, from: usize, to: usize) -> Result<(), A
     requires start { depth new.old ≡ from }
     ensures { OnOk result (HasRowsOf old.now new.old to new.new) }
 {
-    let mut y = from;
-    let mut band = 0;
-    while y < to {
-        let row = old.at(y, band);
-        let bottom = row.bottom.min(to);
-        new.close(row.runs, bottom)?;
-        band = row.band;
-        y = bottom;
+    if from == to {
+        return Ok(());
     }
-    Ok(())
+    let row = old.at(from, 0);
+    let bottom = row.bottom.min(to);
+    new.close(row.runs, bottom)?;
+    if bottom == to {
+        return Ok(());
+    }
+    carry(new, old, row.band, bottom, to)
 }
 
 /// Writes the rows of a patch's rectangle anew.

@@ -1,4 +1,4 @@
-use Rattle.std.proofs.Common.{◌<◌, ◌+◌, subst}
+use Rattle.std.proofs.Common.{◌<◌, ◌+◌, subst, arith}
 use Rattle.std.proofs.lemmas.List.{get_or_read}
 use Rattle.dd_region.specs.declared.rows.Band.{Band}
 use Rattle.dd_region.specs.Rows.{ArePassed}
@@ -8,6 +8,7 @@ use Rattle.dd_region.proofs.rows.Rows.find.Goals as goal
 pub loop-band-init : goal.loop-band-init
 loop-band-init c = record {
   passed = c.requires.passed;
+  later = omega arith;
   within = passed_within c.args.self.now.bands.items c.args.from c.args.y c.requires.passed c.requires.row;
 }
 
@@ -19,6 +20,7 @@ loop-band-preserved c =
     c.loop-band.invariant.within c.index.ensures c.loop-band-test.true in
     record {
       passed = more;
+      later = omega (arith, c.loop-band.invariant.later);
       within = passed_within bands (c.loop-band.band + 1) c.args.y more c.requires.row;
     }
 

@@ -1,10 +1,11 @@
-use Rattle.std.proofs.Common.{◌-◌, ◌<◌, length}
+use Rattle.std.proofs.Common.{◌-◌, ◌<◌, ◌≤◌, length}
 use Rattle.dd_region.specs.Rows.{ArePassed}
 use Rattle.dd_region.proofs.rows.Rows.find.Given as goal
 
 abbrev pub invariant-loop-band : goal.invariant-loop-band
 invariant-loop-band l = record {
   passed : ArePassed l.self l.band l.y;
+  later : l.from ≤ l.band;
   within : l.band < length l.self.bands.items;
 }
 
