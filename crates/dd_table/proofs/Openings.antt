@@ -1,4 +1,4 @@
--- What a granted opening says of the list.
+-- What granted openings and closings say of the list.
 use Rattle.std.proofs.Common.{◌≡◌, ℕ, ◌+◌, ◌≤◌, Bool, true, false, not, cond, List, [], ◌∷◌, length, get_or, Option, Some, None, refl, ap, ◌∙◌, if◌then◌else◌, arith, nat_lt, ◌&&◌, ◌||◌}
 use Rattle.std.specs.Prelude.{is_none, is_some, position, Result, Ok, Err}
 use Rattle.std.specs.List.{list_any, position_or_len}
@@ -10,7 +10,9 @@ use Rattle.dd_log.specs.declared.answers.OpenRefusal.{OpenRefusal}
 use Rattle.dd_log.specs.declared.answers.LogRefusal.TheVariants as refusals
 use Rattle.dd_log.specs.Desk.{is_app, is_free, finds_slot}
 use Rattle.dd_log.specs.History.{History, desk, is_full}
-use Rattle.dd_table.specs.Opening.{opening, is_away, is_denied, is_duplicating, least_free, OpeningsFit}
+use Rattle.dd_log.specs.declared.answers.CloseRefusal.TheVariants.{Ended}
+use Rattle.dd_log.specs.declared.answers.CloseRefusal.TheVariants as closings
+use Rattle.dd_table.specs.Opening.{opening, closing, is_away, is_denied, is_duplicating, least_free, OpeningsFit}
 
 -- where a cause comes first and the answer isn't it, it doesn't stand
 passes : {A : Type 0} (b : Bool) (cause : OpenRefusal) (r : Result A OpenRefusal) (x : A)
@@ -91,3 +93,17 @@ openings_fit h app slot e =
       finds h app slot g.apart g.free,
       has_room (desk h).ended (is_full h) (goes_on (desk h).connected (desk h).ended g.here) g.room,
     )
+
+-- nor has the list ended then
+pub opening_goes_on : (h : History) (app slot : ℕ) → opening h app ≡ Ok slot → (desk h).ended ≡ false
+opening_goes_on h app slot e = goes_on (desk h).connected (desk h).ended (granted h app slot e).here
+
+-- a closing that is granted is of the slot that was given
+pub closing_granted : (h : History) (o : Option ℕ) (slot : ℕ) → closing h o ≡ Ok slot → o ≡ Some slot
+closing_granted h None slot e = cc
+closing_granted h (Some other) slot e = own (desk h).ended (is_full h) e where
+  own : (ended full : Bool) → (if ended then Err Ended else (if full then Err closings.Full else Ok other)) ≡ Ok slot
+      → Some other ≡ Some slot
+  own true full e = cc
+  own false true e = cc
+  own false false e = cc

@@ -1,9 +1,9 @@
 -- What entries do to the slots that are open.
-use Rattle.std.proofs.Common.{◌≡◌, ◌≢◌, ℕ, suc, zero, ◌+◌, ◌<◌, ◌≤◌, Bool, true, false, not, cond, List, [], ◌∷◌, ◌++◌, length, get_or, set, Option, Some, None, refl, sym, ap, ◌∙◌, arith, nat_lt, ⊎_elim}
-use Rattle.std.specs.Prelude.{is_none, is_some, position, slice_get, ◌==◌, Ok}
+use Rattle.std.proofs.Common.{◌≡◌, ◌≢◌, ℕ, suc, zero, ◌<◌, ◌≤◌, Bool, true, false, cond, List, [], ◌∷◌, ◌++◌, length, get_or, set, Option, Some, None, refl, sym, ap, ◌∙◌, arith, nat_lt}
+use Rattle.std.specs.Prelude.{is_none, is_some, position, slice_get, Ok}
 use Rattle.std.specs.List.{position_or_len}
 use Rattle.std.proofs.Math.ListN.{length-set}
-use Rattle.std.proofs.lemmas.Bool.{cases_eq, eq-eqb, eqb-true, ne_eqb, lt-ltb}
+use Rattle.std.proofs.lemmas.Bool.{eq-eqb, eqb-true, ne_eqb, lt-ltb}
 use Rattle.std.proofs.lemmas.List.{get_or-set_same, get_or-set_other}
 use Rattle.std.proofs.lemmas.List.Folds.{position_or_len-set}
 use Rattle.std.proofs.lemmas.List.Sums.{position_or_len_is, fails_before_first}
@@ -11,16 +11,15 @@ use Rattle.std.proofs.lemmas.List.Quantifiers.{position-Some}
 use Rattle.std.proofs.lemmas.Option.{slice_get-get_or}
 use Rattle.dd_log.specs.declared.events.Entry.{Entry}
 use Rattle.dd_log.specs.declared.events.Draw.{Draw}
-use Rattle.dd_log.specs.declared.events.Event.{Event}
 use Rattle.dd_log.specs.declared.events.Event.TheVariants.{Opened, Closed}
 use Rattle.dd_log.specs.declared.events.Event.TheVariants as events
 use Rattle.dd_log.specs.Desk.{is_app, is_taken, finds_slot, slots_after}
 use Rattle.dd_log.specs.History.{History, desk, with_entry}
-use Rattle.dd_log.specs.Slots.{slot_opened, entry_slot, slot_at}
+use Rattle.dd_log.specs.Slots.{slot_opened, entry_slot}
 use Rattle.dd_log.proofs.Desks.{slots-push}
 use Rattle.dd_table.specs.Opening.{opening}
 use Rattle.dd_table.specs.Slots.{IsOpenFor}
-use Rattle.dd_table.proofs.Openings.{Granted, granted, none_before}
+use Rattle.dd_table.proofs.Openings.{granted, none_before}
 
 abbrev slots : History → List (Option ℕ)
 slots h = (desk h).slots
