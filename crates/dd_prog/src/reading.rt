@@ -1,6 +1,6 @@
 //! The script that comes in.
 
-ghost use Rattle.std.specs.Prelude.{◌≤◌, IfOk};
+ghost use Rattle.std.specs.Prelude.{◌≤◌, ◌<◌, ◌-◌, ◌^◌, length, IfOk};
 ghost use Rattle.dd_script.specs.Script.{IsRunnable};
 ghost use Rattle.dd_prog.specs.Commands.{work};
 ghost use Rattle.dd_prog.specs.Exchange.{side, IfTold};
@@ -16,10 +16,11 @@ use std::alloc::Global;
 /// The most bytes of a script.
 pub const MAX_SCRIPT_BYTES: u64 = 16_777_216;
 
-/// Reads the input to its end, and the script that it is.
+/// Reads the input to its end, and the script that it is: it has fewer steps than the input bytes.
 pub(crate) fn read_script<S: Source>(alloc: Global, source: &mut S) -> Result<Script, InputFault>
     ensures reads { Reads (work Command.Replay) (side S.left S.faults source.old source.new) result }
     ensures whole { IfOk result (λ s. IsRunnable s) }
+    ensures count { IfOk result (λ s. length s.steps < 2 ^ 32 - 1) }
     ensures told { IfTold (side S.left S.faults source.old source.new) (FitsRead (work Command.Replay) result) }
     ensures later { S.faults source.old ≤ S.faults source.new }
 {

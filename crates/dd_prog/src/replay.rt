@@ -74,7 +74,8 @@ fn play_all<K: Sink>(
 /// Runs a script, and writes its answers.
 #[tactic(auto, unfolding(dd_station::specs::Run::run))]
 fn run_script<K: Sink>(alloc: Global, script: Script, sink: &mut K) -> Result<(), RunFault>
-    requires { IsRunnable script }
+    requires whole { IsRunnable script }
+    requires count { length script.steps < 2 ^ 32 - 1 }
     ensures wrote { Writes (side K.held K.faults sink.old sink.new) (text (run script)) result }
     ensures later { K.faults sink.old ≤ K.faults sink.new }
 {
