@@ -3,3 +3,4 @@ pub mod Events
 pub mod History
 pub mod Log
 pub mod Picture
+pub mod Slots

@@ -1,4 +1,3 @@
 mod Examples
 pub mod Kept
-pub mod Openings
 pub mod Stepped

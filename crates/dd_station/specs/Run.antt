@@ -6,11 +6,13 @@ use Rattle.dd_log.specs.declared.events.Event.{Event}
 use Rattle.dd_log.specs.declared.events.Event.TheVariants as events
 use Rattle.dd_log.specs.declared.events.Draw as draws
 use Rattle.dd_log.specs.declared.answers.Answer.{Answer}
-use Rattle.dd_log.specs.declared.answers.Answer.TheVariants.{Entered, NotDrawn, Opened, NotOpened, NoDuplicator}
+use Rattle.dd_log.specs.declared.answers.Answer.TheVariants.{Entered, NotDrawn, Opened, NotOpened, Closed, NotClosed, NoDuplicator}
 use Rattle.dd_log.specs.declared.answers.LogRefusal.{LogRefusal}
 use Rattle.dd_log.specs.declared.answers.OpenRefusal.{OpenRefusal}
+use Rattle.dd_log.specs.declared.answers.CloseRefusal.{CloseRefusal}
 use Rattle.dd_log.specs.History.{History, begun, with_entry, allowed}
-use Rattle.dd_table.specs.Opening.{opening}
+use Rattle.dd_log.specs.Slots.{slot_at}
+use Rattle.dd_table.specs.Opening.{opening, closing}
 use Rattle.dd_dup.specs.declared.calls.DupCall.{DupCall}
 use Rattle.dd_dup.specs.declared.calls.DupCall.TheVariants as asked
 use Rattle.dd_dup.specs.Reply.{Memory, fresh_memory, reply, call_takes_memory}
@@ -35,15 +37,6 @@ start spec clients =
 abbrev pub IsOfClient : ℕ → Step → Type 0
 IsOfClient n (steps.Draw d) = Unit {0}
 IsOfClient n (steps.Call k call) = (1 ≤ k) × (k ≤ n)
-
--- what a call asks of the client's duplicator; an opening and a closing ask nothing
-abbrev pub asks : ClientCall → Option DupCall
-asks calls.Duplicate = None
-asks calls.Close = None
-asks (calls.Acquire timeout) = Some asked.Acquire
-asks calls.Release = Some asked.Release
-asks calls.Surface = Some asked.Surface
-asks calls.Desc = Some asked.Desc
 
 -- one step more, with this list
 abbrev pub one_step_on : State → History → State
@@ -90,6 +83,19 @@ opening_outcome (Ok slot) s k = (
 )
 opening_outcome (Err cause) s k = (NotOpened cause, one_step_on s s.history)
 
+-- the slot of a client's duplicator, where it has one: that of its opening
+abbrev pub slot_of : Option Memory → History → Option ℕ
+slot_of None h = None
+slot_of (Some m) h = slot_at h m.opened
+
+-- a closing is the next entry, and the client has no memory then; or it is refused
+abbrev pub closing_outcome : Result ℕ CloseRefusal → State → ℕ → Answer × State
+closing_outcome (Ok slot) s k = (
+  Closed (next_number s),
+  with_memory (one_step_on s (with_entry s.history (entry_of s k (events.Closed slot)))) k None,
+)
+closing_outcome (Err cause) s k = (NotClosed cause, one_step_on s s.history)
+
 -- what a client is answered that may have no duplicator, and its memory then
 abbrev pub client_reply : DupCall → Option Memory → History → Answer × Option Memory
 client_reply call None h = (NoDuplicator, None)
@@ -98,13 +104,17 @@ client_reply call (Some m) h = ((reply call m h).0, Some (reply call m h).1)
 abbrev pub reply_outcome : State → ℕ → Answer × Option Memory → Answer × State
 reply_outcome s k r = (r.0, with_memory (one_step_on s s.history) k r.1)
 
--- a client opens a duplicator, or asks its duplicator something
-abbrev pub client_outcome : State → ℕ → Option DupCall → Answer × State
-client_outcome s k None = opening_outcome (opening s.history (app_of s k)) s k
-client_outcome s k (Some call) = reply_outcome s k (client_reply call (memory_of s k) s.history)
+abbrev pub asking_outcome : State → ℕ → DupCall → Answer × State
+asking_outcome s k call = reply_outcome s k (client_reply call (memory_of s k) s.history)
 
+-- a client opens a duplicator, closes its own, or asks it something
 abbrev pub call_outcome : State → ℕ → ClientCall → Answer × State
-call_outcome s k call = client_outcome s k (asks call)
+call_outcome s k calls.Duplicate = opening_outcome (opening s.history (app_of s k)) s k
+call_outcome s k calls.Close = closing_outcome (closing s.history (slot_of (memory_of s k) s.history)) s k
+call_outcome s k (calls.Acquire timeout) = asking_outcome s k asked.Acquire
+call_outcome s k calls.Release = asking_outcome s k asked.Release
+call_outcome s k calls.Surface = asking_outcome s k asked.Surface
+call_outcome s k calls.Desc = asking_outcome s k asked.Desc
 
 -- the answer to the next step, and the state then
 unfoldable pub next : State → Step → Answer × State
@@ -116,16 +126,23 @@ abbrev pub asking_takes_memory : DupCall → Option Memory → History → Bool
 asking_takes_memory call None h = false
 asking_takes_memory call (Some m) h = call_takes_memory call m h
 
--- or for an opening that is granted
-abbrev pub client_takes_memory : State → ℕ → Option DupCall → Bool
-client_takes_memory s k None = is_ok (opening s.history (app_of s k))
-client_takes_memory s k (Some call) = asking_takes_memory call (memory_of s k) s.history
+abbrev pub asks_memory : State → ℕ → DupCall → Bool
+asks_memory s k call = asking_takes_memory call (memory_of s k) s.history
+
+-- or for what a client calls: an opening that is granted takes some, a closing none
+abbrev pub client_takes_memory : State → ℕ → ClientCall → Bool
+client_takes_memory s k calls.Duplicate = is_ok (opening s.history (app_of s k))
+client_takes_memory s k calls.Close = false
+client_takes_memory s k (calls.Acquire timeout) = asks_memory s k asked.Acquire
+client_takes_memory s k calls.Release = asks_memory s k asked.Release
+client_takes_memory s k calls.Surface = asks_memory s k asked.Surface
+client_takes_memory s k calls.Desc = asks_memory s k asked.Desc
 
 -- whether memory is taken for a step: for each drawing, for an opening that is granted, for a frame that is granted and
--- for rows; never for a release
+-- for rows; never for a closing or a release
 unfoldable pub step_takes_memory : State → Step → Bool
 step_takes_memory s (steps.Draw d) = true
-step_takes_memory s (steps.Call k call) = client_takes_memory s k (asks call)
+step_takes_memory s (steps.Call k call) = client_takes_memory s k call
 
 -- the answers to steps in order
 abbrev pub answers : State → List Step → List Answer

@@ -1,6 +1,7 @@
 -- A station's value and what it keeps.
-use Rattle.std.specs.Prelude.{◌≡◌, ℕ, ◌≤◌, List, length, map, Option, Some, None, option_map, slice_index_or}
+use Rattle.std.specs.Prelude.{◌≡◌, ◌≢◌, ℕ, ◌≤◌, true, List, length, map, Option, Some, None, is_some, option_map, slice_index, slice_index_or}
 use Rattle.dd_log.specs.History.{History, last_step}
+use Rattle.dd_table.specs.Slots.{IsOpenFor}
 use Rattle.dd_dup.specs.Reply.{Memory}
 use Rattle.dd_dup.specs.Duplicator.{Duplicator}
 use Rattle.dd_dup.specs.Stands.{Stands}
@@ -21,9 +22,21 @@ abbrev pub MayStand : Option Duplicator → History → Type 0
 MayStand None h = Unit {0}
 MayStand (Some d) h = Stands d h
 
--- There is a place for each client's duplicator, each stands on the list, and no entry is of a later step.
+-- and the slot of its opening is the one that is open for the client's application
+abbrev pub HasSlot : Option Duplicator → History → ℕ → Type 0
+HasSlot None h app = Unit {0}
+HasSlot (Some d) h app = IsOpenFor h d.memory.opened app
+
+-- a place has a duplicator
+abbrev pub Has : List (Option Duplicator) → ℕ → Type 0
+Has dups k = is_some (slice_index_or dups k None) ≡ true
+
+-- There is a place for each client's duplicator. Each stands on the list and has its slot, and two are of two
+-- applications. No entry is of a later step.
 pub record IsKept (h : History) (clients : List ℕ) (dups : List (Option Duplicator)) (steps : ℕ) : Type 0 where
   pub few : length clients ≤ MAX_CLIENTS
   pub places : length dups ≡ length clients
   pub stand : (k : ℕ) → MayStand (slice_index_or dups k None) h
+  pub slots : (k : ℕ) → HasSlot (slice_index_or dups k None) h (slice_index clients k)
+  pub apart : (j k : ℕ) → j ≢ k → Has dups j → Has dups k → slice_index clients j ≢ slice_index clients k
   pub past : (actor : ℕ) → last_step h.entries actor ≤ steps

@@ -2,6 +2,7 @@
 #![tactic(auto)]
 
 mod calls;
+mod closing;
 mod opening;
 mod station;
 mod steps;

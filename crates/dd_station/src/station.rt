@@ -1,16 +1,19 @@
 //! A station: one output, its clients, and their steps one after another.
 
-ghost use Rattle.std.specs.Prelude.{◌≡◌, ◌+◌, ◌-◌, ◌^◌, ◌≤◌, ◌<◌, length, IsTrue, IsOk, IfOk, OnOk, OnErr, replicate, None};
-ghost use Rattle.dd_log.specs.History.{allowed, last_step};
+ghost use Rattle.std.specs.Prelude.{◌≡◌, ◌+◌, ◌-◌, ◌^◌, ◌≤◌, ◌<◌, length, option_map, IsTrue, IsOk, IfOk, IfSome, OnOk, OnErr, replicate, None};
+ghost use Rattle.dd_log.specs.Desk.{finds_slot};
+ghost use Rattle.dd_log.specs.History.{allowed, desk, last_step};
 ghost use Rattle.dd_log.specs.declared.events.TheConstants.{MAX_CAPACITY};
 ghost use Rattle.dd_station.specs.declared.steps.TheConstants.{MAX_CLIENTS};
 ghost use Rattle.dd_station.specs.Run.{draw_answer, draw_history};
 
 use crate::calls::answer_of;
+use crate::closing::close;
 use crate::opening::{Attempt, open};
 use crate::steps::{ClientCall, MAX_CLIENTS, Step};
 use dd_dup::{Dup, DupCall};
 use dd_log::{Answer, Draw, Entry, Event, Log, Spec};
+use dd_table::may_close;
 use std::alloc::{AllocError, Global};
 use std::marker::Model;
 
@@ -19,8 +22,9 @@ use std::marker::Model;
 ///
 /// At all times there are at most 16 clients, and a place for the duplicator of each. Each
 /// duplicator that is there stands on the list: it was opened in it, its mark lies in it, and its
-/// picture and surface are the desk's at that mark. No entry of the list is of a later step than
-/// those so far.
+/// surface and the hidden points are the desk's at that mark. The slot that its opening took is the
+/// one that is open for its client's application, lost or not, and no two clients with a duplicator
+/// have one application. No entry of the list is of a later step than those so far.
 #[derive(Debug, Drop)]
 pub struct Station {
     alloc: Global,
@@ -73,8 +77,9 @@ fn none_of(alloc: Global, n: usize) -> Result<Vec<Option<Dup>>, AllocError>
 }
 
 impl Station {
-    ghost use Rattle.dd_station.specs.Run.{start, next, draw_outcome, call_outcome, reply_outcome, client_reply, memory_of, opening_outcome, app_of, asks, step_takes_memory, client_takes_memory, asking_takes_memory, IsOfClient};
-    ghost use Rattle.dd_table.specs.Opening.{opening};
+    ghost use Rattle.dd_station.specs.Run.{start, next, draw_outcome, call_outcome, asking_outcome, memory_of, slot_of, opening_outcome, closing_outcome, app_of, step_takes_memory, client_takes_memory, asks_memory, IsOfClient};
+    ghost use Rattle.dd_table.specs.Opening.{opening, closing};
+    ghost use Rattle.dd_dup.specs.Stands.{Stands};
 
     /// A station with an empty list and no duplicators; client k, from 1, has the k-th application.
     pub fn start(alloc: Global, spec: Spec, clients: &[u32]) -> Result<Station, AllocError>
@@ -130,14 +135,52 @@ impl Station {
         }
     }
 
+    /// The slot of a client's duplicator, which is open; none where it has no duplicator.
+    fn slot_of(&self, client: u32) -> Option<u32>
+        requires from { 1 ≤ client }
+        requires to { client ≤ length self.now.clients }
+        ensures value { result ≡ slot_of (memory_of self.now client) self.now.history }
+        ensures open { IfSome result (λ slot. IsTrue (finds_slot (desk self.now.history).slots (Event.Closed slot))) }
+    {
+        let index = client as usize - 1;
+        match &self.dups[index] {
+            None => None,
+            Some(_) => self.log.slot_of(self.clients[index]),
+        }
+    }
+
+    fn close(&mut self, client: u32) -> Answer
+        requires from { 1 ≤ client }
+        requires to { client ≤ length self.old.clients }
+        requires count { self.old.steps < 2 ^ 32 - 1 }
+        ensures answer { result ≡ (closing_outcome (closing self.old.history (slot_of (memory_of self.old client) self.old.history)) self.old client).0 }
+        ensures state { self.new ≡ (closing_outcome (closing self.old.history (slot_of (memory_of self.old client) self.old.history)) self.old client).1 }
+    {
+        let index = client as usize - 1;
+        let own = self.slot_of(client);
+        let step = self.steps + 1;
+        match may_close(&self.log, own) {
+            Ok(slot) => {
+                let entry = close(&mut self.log, slot, client, step);
+                self.dups[index] = None;
+                self.steps = step;
+                Answer::Closed { entry }
+            }
+            Err(cause) => {
+                self.steps = step;
+                Answer::NotClosed(cause)
+            }
+        }
+    }
+
     fn ask(&mut self, client: u32, call: DupCall) -> Result<Answer, AllocError>
         requires from { 1 ≤ client }
         requires to { client ≤ length self.old.clients }
         requires count { self.old.steps < 2 ^ 32 - 1 }
-        ensures answer { IfOk result (λ a. a ≡ (reply_outcome self.old client (client_reply call (memory_of self.old client) self.old.history)).0) }
-        ensures state { OnOk result (self.new ≡ (reply_outcome self.old client (client_reply call (memory_of self.old client) self.old.history)).1) }
+        ensures answer { IfOk result (λ a. a ≡ (asking_outcome self.old client call).0) }
+        ensures state { OnOk result (self.new ≡ (asking_outcome self.old client call).1) }
         ensures err { OnErr result (self.new ≡ self.old) }
-        ensures wants { OnErr result (IsTrue (asking_takes_memory call (memory_of self.old client) self.old.history)) }
+        ensures wants { OnErr result (IsTrue (asks_memory self.old client call)) }
     {
         let index = client as usize - 1;
         let answer = answer_of(&mut self.dups[index], &self.log, call)?;
@@ -146,7 +189,7 @@ impl Station {
     }
 
     /// Does one step, which is the next of the run. Want of memory changes nothing, and the step
-    /// isn't counted; it comes only where the step takes memory, which a release never does.
+    /// isn't counted; it comes only where the step takes memory, which a closing or a release never does.
     #[tactic(auto, unfolding(crate::specs::Run::next, crate::specs::Run::step_takes_memory))]
     pub fn step(&mut self, step: &Step) -> Result<Answer, AllocError>
         requires client { IsOfClient (length self.old.clients) step.now }
@@ -169,12 +212,26 @@ impl Station {
         ensures answer { IfOk result (λ a. a ≡ (call_outcome self.old client call).0) }
         ensures state { OnOk result (self.new ≡ (call_outcome self.old client call).1) }
         ensures err { OnErr result (self.new ≡ self.old) }
-        ensures wants { OnErr result (IsTrue (client_takes_memory self.old client (asks call))) }
+        ensures wants { OnErr result (IsTrue (client_takes_memory self.old client call)) }
     {
-        match call.asks() {
-            None => self.duplicate(client),
-            Some(asked) => self.ask(client, asked),
+        match call {
+            ClientCall::Duplicate => self.duplicate(client),
+            ClientCall::Close => Ok(self.close(client)),
+            ClientCall::Acquire { .. } => self.ask(client, DupCall::Acquire),
+            ClientCall::Release => self.ask(client, DupCall::Release),
+            ClientCall::Surface => self.ask(client, DupCall::Surface),
+            ClientCall::Desc => self.ask(client, DupCall::Desc),
         }
+    }
+
+    /// A client's duplicator, which stands on the list; none where it has none.
+    pub fn dup(&self, client: u32) -> Option<&Dup>
+        requires from { 1 ≤ client }
+        requires to { client ≤ length self.now.clients }
+        ensures memory { option_map (λ d. d.now.memory) result ≡ memory_of self.now client }
+        ensures stands { IfSome result (λ d. Stands d.now self.now.history) }
+    {
+        self.dups[client as usize - 1].as_ref()
     }
 
     /// The list so far.

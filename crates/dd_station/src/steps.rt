@@ -1,16 +1,14 @@
 //! The steps of a script.
 
 ghost use Rattle.std.specs.Prelude.{◌≡◌};
-ghost use Rattle.dd_station.specs.Run.{asks as asked_by};
 
-use dd_dup::DupCall;
 use dd_log::{Apps, Draw, Spec};
 use std::marker::Model;
 
 /// The most clients of an output.
 pub const MAX_CLIENTS: usize = 16;
 
-/// What a client asks of its duplicator.
+/// What a client calls.
 #[derive(Clone, Copy, Debug, PartialEq, Eq)]
 pub enum ClientCall {
     /// Opens a duplicator (the API's DuplicateOutput).
@@ -25,21 +23,6 @@ pub enum ClientCall {
     Surface,
     /// Asks for the mode in which the duplicator was opened (GetDesc).
     Desc,
-}
-
-impl ClientCall {
-    /// What it asks of the client's duplicator; an opening and a closing ask nothing.
-    pub fn asks(&self) -> Option<DupCall>
-        ensures { result ≡ asked_by self.now }
-    {
-        match self {
-            ClientCall::Duplicate | ClientCall::Close => None,
-            ClientCall::Acquire { .. } => Some(DupCall::Acquire),
-            ClientCall::Release => Some(DupCall::Release),
-            ClientCall::Surface => Some(DupCall::Surface),
-            ClientCall::Desc => Some(DupCall::Desc),
-        }
-    }
 }
 
 /// One step.

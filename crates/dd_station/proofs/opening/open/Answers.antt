@@ -4,12 +4,13 @@ use Rattle.dd_log.specs.declared.events.Entry.{Entry}
 use Rattle.dd_log.specs.declared.events.Event.TheVariants as events
 use Rattle.dd_dup.specs.Reply.{Memory, fresh_memory}
 use Rattle.dd_dup.specs.Stands.{Stands}
-use Rattle.dd_station.proofs.Kept.{begins-with_entry}
-use Rattle.dd_station.proofs.Openings.{opens_granted, opens_there}
+use Rattle.dd_table.proofs.Openings.{opening_goes_on}
+use Rattle.dd_station.proofs.Kept.{begins-with_entry, opens_there}
 use Rattle.dd_station.proofs.opening.open.Goals as goal
 
-pub append-requires-clause-opening : goal.append-requires-clause-opening
-append-requires-clause-opening c = opens_granted c.args.log.now c.args.app c.in-Ok.slot (sym c.in-Ok.ensures)
+pub start-requires-clause-going : goal.start-requires-clause-going
+start-requires-clause-going c =
+    opening_goes_on c.args.log.now c.args.app c.in-Ok.slot (sym c.in-Ok.ensures.value)
 
 pub returns-clause-attempt : goal.returns-clause-attempt
 returns-clause-attempt c =
@@ -22,7 +23,7 @@ returns-clause-attempt c =
     let there : opens_at (with_entry h e) c.in_ok-dup.dup.memory.opened ≡ true =
     ap (λ (m : Memory). opens_at (with_entry h e) m.opened) is_fresh
     ∙ opens_there h c.args.actor c.args.step c.in-Ok.slot c.args.app in (
-      sym c.in-Ok.ensures,
+      sym c.in-Ok.ensures.value,
       c.in-Ok-append.ensures.ok,
       ap (λ n. n + 1) at_is,
       is_fresh,

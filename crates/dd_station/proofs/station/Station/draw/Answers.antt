@@ -1,6 +1,5 @@
-use Rattle.std.proofs.Common.{◌∙◌, ◌+◌, sym, ap, subst, refl}
+use Rattle.std.proofs.Common.{◌∙◌, ◌+◌, sym, ap, subst}
 use Rattle.dd_log.specs.History.{History, allowed}
-use Rattle.dd_log.specs.declared.events.Event.TheVariants as events
 use Rattle.dd_station.specs.Run.{State, draw_outcome}
 use Rattle.dd_station.specs.Station.{state, IsKept}
 use Rattle.dd_station.proofs.Kept.{kept_draw}
@@ -10,9 +9,8 @@ pub invariant_of-self-2 : goal.invariant_of-self-2
 invariant_of-self-2 c =
     subst (λ (h : History). IsKept h c.self.inside.clients.items c.self.inside.dups.items (c.self.inside.steps + 1))
     (sym c.in_ok-answer.ensures.list)
-    (kept_draw (allowed c.self.inside.log c.args.drawing.now) c.self.inside.log
-    (record { actor = 0; step = c.self.inside.steps + 1; event = events.Draw c.args.drawing.now })
-    c.self.inside.clients.items c.self.inside.dups.items c.self.inside.steps c.self.invariant refl)
+    (kept_draw (allowed c.self.inside.log c.args.drawing.now) c.self.inside.log 0 c.self.inside.steps
+    c.args.drawing.now c.self.inside.clients.items c.self.inside.dups.items c.self.invariant)
 
 pub returns-clause-answer : goal.returns-clause-answer
 returns-clause-answer c = c.in_ok-answer.ensures.answer

@@ -1,6 +1,5 @@
-use Rattle.std.proofs.Common.{◌≡◌, ℕ, ◌+◌, ◌-◌, ◌<◌, ◌∙◌, List, Option, Some, Ok, Err, Result, length, get_or, sym, ap, subst, arith, refl}
-use Rattle.std.specs.Prelude.{slice_set}
-use Rattle.std.proofs.lemmas.List.{get_or_default}
+use Rattle.std.proofs.Common.{◌≡◌, ℕ, ◌+◌, ◌-◌, ◌<◌, ◌∙◌, List, Option, Some, Ok, Err, Result, length, sym, ap, subst, arith}
+use Rattle.std.specs.Prelude.{slice_set, slice_index}
 use Rattle.dd_log.specs.declared.events.Entry.{Entry}
 use Rattle.dd_log.specs.declared.events.Event.TheVariants as events
 use Rattle.dd_log.specs.declared.answers.Answer.TheVariants.{Opened}
@@ -9,11 +8,12 @@ use Rattle.dd_log.specs.History.{History, with_entry}
 use Rattle.dd_table.specs.Opening.{opening}
 use Rattle.dd_dup.specs.Reply.{Memory}
 use Rattle.dd_dup.specs.Duplicator.{Duplicator}
+use Rattle.dd_dup.specs.Stands.{Stands}
 use Rattle.dd_station.specs.declared.opening.Attempt.{Attempt}
 use Rattle.dd_station.specs.Opening.{IsAttempt}
 use Rattle.dd_station.specs.Run.{State, opening_outcome, app_of}
 use Rattle.dd_station.specs.Station.{memories, state, IsKept}
-use Rattle.dd_station.proofs.Kept.{kept_set, kept_entry, memories-set}
+use Rattle.dd_station.proofs.Kept.{kept_opened, app_there, memories-set}
 use Rattle.dd_station.proofs.station.Station.duplicate.Goals as goal
 
 abbrev with_memories : History → List ℕ → List (Option Memory) → ℕ → State
@@ -49,29 +49,28 @@ refused h new clients dups n k app cause app_is a = (
   ap (λ (g : History). state g clients dups (n + 1)) a.1,
 )
 
--- the client's application, at any default
-app_there : (clients : List ℕ) (i x : ℕ) → i < length clients → x ≡ get_or clients i x → x ≡ get_or clients i 0
-app_there clients i x i_in is = is ∙ get_or_default clients i x 0 i_in
-
 pub invariant_of-self-in-Made : goal.invariant_of-self-in-Made
 invariant_of-self-in-Made c =
     let h = c.self.inside.log in
     let n = c.self.inside.steps in
-    let i = c.args.client - 1 in
+    let k = c.args.client in
+    let clients = c.self.inside.clients.items in
+    let dups = c.self.inside.dups.items in
     let a = subst
-    (λ (x : Attempt). IsAttempt x h c.open.new.log c.index-app.result.now c.args.client (n + 1)) c.in-Made.is
+    (λ (x : Attempt). IsAttempt x h c.open.new.log c.index-app.result.now k (n + 1)) c.in-Made.is
     c.in_ok-attempt.ensures.attempt in
-    let e : Entry =
-    record { actor = c.args.client; step = n + 1; event = events.Opened c.in-Made.slot c.index-app.result.now } in
-    let same_clients : length c.self.inside.clients.items ≡ length c.args.self.now.clients =
+    let entry_for : ℕ → Entry = λ x. record { actor = k; step = n + 1; event = events.Opened c.in-Made.slot x } in
+    let same_clients : length clients ≡ length c.args.self.now.clients =
     ap (λ (s : State). length s.clients) c.self.view_is in
-    let i_in : i < length c.self.inside.dups.items =
-    omega (arith, same_clients, c.self.invariant.places, c.requires.from, c.requires.to) in
-    let grown : IsKept c.open.new.log c.self.inside.clients.items c.self.inside.dups.items (n + 1) =
-    subst (λ (g : History). IsKept g c.self.inside.clients.items c.self.inside.dups.items (n + 1)) (sym a.1)
-    (kept_entry h e c.self.inside.clients.items c.self.inside.dups.items n c.self.invariant refl) in
-    kept_set c.open.new.log c.self.inside.clients.items c.self.inside.dups.items (n + 1) i
-    (Some c.in-Made.dup) i_in grown a.4
+    let i_in : k - 1 < length clients = omega (arith, same_clients, c.requires.from, c.requires.to) in
+    let i_there : k - 1 < length dups = omega (arith, i_in, c.self.invariant.places) in
+    let app_is = app_there clients (k - 1) c.index-app.result.now i_in c.index-app.ensures in
+    let new_is : c.open.new.log ≡ with_entry h (entry_for (slice_index clients (k - 1))) =
+    a.1 ∙ ap (λ x. with_entry h (entry_for x)) app_is in
+    subst (λ (g : History). IsKept g clients (slice_set dups (k - 1) (Some c.in-Made.dup)) (n + 1)) (sym new_is)
+    (kept_opened h k n c.in-Made.slot clients dups (k - 1) c.in-Made.dup i_there c.self.invariant
+    (ap (opening h) (sym app_is) ∙ a.0) (ap (λ (m : Memory). m.opened) a.3)
+    (subst (λ (g : History). Stands c.in-Made.dup g) new_is a.4))
 
 pub returns-in-Made-clause-answer : goal.returns-in-Made-clause-answer
 returns-in-Made-clause-answer c =
