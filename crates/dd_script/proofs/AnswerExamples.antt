@@ -3,10 +3,12 @@ use Rattle.std.proofs.Common.{◌≡◌, pos, negsuc, false, [], ◌∷◌, code
 use Rattle.serde_json.specs.Data.{boolean, number, unsigned, negative, array, object, item, no_items, member, no_members}
 use Rattle.dd_geom.specs.declared.rect.Rect.{Rect}
 use Rattle.dd_geom.specs.declared.rect.Move.{Move}
+use Rattle.dd_modes.specs.declared.modes.Rotation.TheVariants.{Unspecified, Rotate270}
 use Rattle.dd_log.specs.declared.answers.FrameInfo.{FrameInfo}
 use Rattle.dd_log.specs.declared.answers.Answer.TheVariants as answer
 use Rattle.dd_log.specs.declared.answers.LogRefusal.TheVariants as drawing
 use Rattle.dd_log.specs.declared.answers.OpenRefusal.TheVariants as opening
+use Rattle.dd_log.specs.declared.answers.CloseRefusal.TheVariants as closing
 use Rattle.dd_log.specs.declared.answers.DupRefusal.TheVariants as call
 use Rattle.dd_script.specs.Answers.{move_tree, answer_tree}
 use Rattle.dd_script.specs.Texts.{line, text}
@@ -69,22 +71,33 @@ unfolding answers_on_literals
 line_of_a_frame = refl
 
 -- answers, and the text of each of them
-lines_of_accepted_calls : text (answer.Entered 2 ∷ answer.Opened 1 3 ∷ answer.Released ∷ answer.Surface None ∷ answer.Surface (Some ((0xff8001 ∷ 255 ∷ []) ∷ [])) ∷ [])
-    ≡ codes "{\"entry\":2}\n{\"entry\":1,\"slot\":3}\n{\"released\":true}\n{\"surface\":null}\n{\"surface\":[\"ff80010000ff\"]}\n"
+lines_of_accepted_calls : text (answer.Entered 2 ∷ answer.Opened 1 3 ∷ answer.Closed 4 ∷ answer.Released ∷ answer.Surface None ∷ answer.Surface (Some ((0xff8001 ∷ 255 ∷ []) ∷ [])) ∷ [])
+    ≡ codes "{\"entry\":2}\n{\"entry\":1,\"slot\":3}\n{\"entry\":4}\n{\"released\":true}\n{\"surface\":null}\n{\"surface\":[\"ff80010000ff\"]}\n"
 unfolding answers_on_literals
 lines_of_accepted_calls = refl
 
-lines_of_refused_drawings : text (answer.NotDrawn drawing.Full ∷ answer.NotDrawn (drawing.BadRect 5) ∷ [])
-    ≡ codes "{\"refused\":\"Full\"}\n{\"code\":\"80070057\",\"op\":5,\"refused\":\"BadRect\"}\n"
+lines_of_modes : text (answer.Desc (record { width = 8192; height = 2048; rotation = Rotate270 }) ∷ answer.Desc (record { width = 4; height = 3; rotation = Unspecified }) ∷ [])
+    ≡ codes "{\"height\":2048,\"rotation\":4,\"width\":8192}\n{\"height\":3,\"rotation\":0,\"width\":4}\n"
+unfolding answers_on_literals
+lines_of_modes = refl
+
+lines_of_refused_drawings : text (answer.NotDrawn drawing.Ended ∷ answer.NotDrawn drawing.Full ∷ answer.NotDrawn drawing.BadMode ∷ answer.NotDrawn (drawing.BadRect 5) ∷ [])
+    ≡ codes "{\"refused\":\"Ended\"}\n{\"refused\":\"Full\"}\n{\"code\":\"80070057\",\"refused\":\"BadMode\"}\n{\"code\":\"80070057\",\"op\":5,\"refused\":\"BadRect\"}\n"
 unfolding answers_on_literals
 lines_of_refused_drawings = refl
 
-lines_of_refused_openings : text (answer.NotOpened opening.AlreadyDuplicating ∷ answer.NotOpened opening.NotAvailable ∷ answer.NotOpened opening.Full ∷ [])
-    ≡ codes "{\"code\":\"80070057\",\"refused\":\"AlreadyDuplicating\"}\n{\"code\":\"887a0022\",\"refused\":\"NotAvailable\"}\n{\"refused\":\"Full\"}\n"
+lines_of_refused_openings : text (answer.NotOpened opening.SessionDisconnected ∷ answer.NotOpened opening.AccessDenied ∷ answer.NotOpened opening.AlreadyDuplicating ∷ answer.NotOpened opening.NotAvailable ∷ answer.NotOpened opening.Full ∷ [])
+    ≡ codes "{\"code\":\"887a0028\",\"refused\":\"SessionDisconnected\"}\n{\"code\":\"80070005\",\"refused\":\"AccessDenied\"}\n{\"code\":\"80070057\",\"refused\":\"AlreadyDuplicating\"}\n{\"code\":\"887a0022\",\"refused\":\"NotAvailable\"}\n{\"refused\":\"Full\"}\n"
 unfolding answers_on_literals
 lines_of_refused_openings = refl
 
-lines_of_refused_calls : text (answer.Refused call.InvalidCall None ∷ answer.Refused call.InvalidCall (Some (238 ∷ 1 ∷ [])) ∷ answer.Refused call.WaitTimeout None ∷ answer.Refused call.OutOfMemory None ∷ answer.NoDuplicator ∷ [])
-    ≡ codes "{\"code\":\"887a0001\",\"refused\":\"InvalidCall\"}\n{\"buffer\":\"ee01\",\"code\":\"887a0001\",\"refused\":\"InvalidCall\"}\n{\"code\":\"887a0027\",\"refused\":\"WaitTimeout\"}\n{\"refused\":\"OutOfMemory\"}\n{\"refused\":\"NoDuplicator\"}\n"
+lines_of_refused_closings : text (answer.NotClosed closing.NoDuplicator ∷ answer.NotClosed closing.Ended ∷ answer.NotClosed closing.Full ∷ [])
+    ≡ codes "{\"refused\":\"NoDuplicator\"}\n{\"refused\":\"Ended\"}\n{\"refused\":\"Full\"}\n"
+unfolding answers_on_literals
+lines_of_refused_closings = refl
+
+-- a lost duplicator, with a buffer of two bytes that stays as it was and without
+lines_of_refused_calls : text (answer.Refused call.AccessLost (Some (238 ∷ 238 ∷ [])) ∷ answer.Refused call.AccessLost None ∷ answer.Refused call.InvalidCall None ∷ answer.Refused call.InvalidCall (Some (238 ∷ 1 ∷ [])) ∷ answer.Refused call.WaitTimeout None ∷ answer.Refused call.OutOfMemory None ∷ answer.NoDuplicator ∷ [])
+    ≡ codes "{\"buffer\":\"eeee\",\"code\":\"887a0026\",\"refused\":\"AccessLost\"}\n{\"code\":\"887a0026\",\"refused\":\"AccessLost\"}\n{\"code\":\"887a0001\",\"refused\":\"InvalidCall\"}\n{\"buffer\":\"ee01\",\"code\":\"887a0001\",\"refused\":\"InvalidCall\"}\n{\"code\":\"887a0027\",\"refused\":\"WaitTimeout\"}\n{\"refused\":\"OutOfMemory\"}\n{\"refused\":\"NoDuplicator\"}\n"
 unfolding answers_on_literals
 lines_of_refused_calls = refl

@@ -5,25 +5,28 @@ use Rattle.std.specs.List.{list_all, range_with_len}
 use Rattle.std.specs.Int.{w32, from_be_bytes}
 use Rattle.std.specs.Result.{result_ok}
 use Rattle.std.specs.Str.{bytes_eq}
-use Rattle.std.proofs.lemmas.Bool.{and_from, and_parts, lt-ltb}
+use Rattle.std.proofs.lemmas.Bool.{and_from, lt-ltb}
 use Rattle.std.proofs.lemmas.Option.{IfSome_then}
 use Rattle.hex.specs.Hex.{IsBytes, decode_of, decode_pairs, decode_sized}
 use Rattle.hex.specs.declared.error.FromHexError.{FromHexError}
 use Rattle.hex.specs.declared.error.FromHexError.TheVariants.{OddLength, InvalidStringLength}
 use Rattle.hex.proofs.HexLemmas.{decode_pairs-ok}
 use Rattle.serde_json.specs.Data.{Data}
-use Rattle.serde_json.specs.Find.{get, at, as_number, as_u64, as_i64, as_str}
+use Rattle.serde_json.specs.Find.{get, at, as_bool, as_number, as_u64, as_i64, as_str}
 use Rattle.dd_modes.specs.Modes.{are_modes}
 use Rattle.dd_ops.specs.declared.operations.Op.{Op}
 use Rattle.dd_ops.specs.declared.lists.TheConstants.{MAX_OPS}
 use Rattle.dd_station.specs.declared.steps.ClientCall.{ClientCall}
-use Rattle.dd_station.specs.declared.steps.ClientCall.TheVariants.{Duplicate, Acquire, Release, Surface}
+use Rattle.dd_log.specs.declared.events.Draw as draws
+use Rattle.dd_log.specs.declared.events.Draw.TheVariants as drawings
+use Rattle.dd_station.specs.declared.steps.ClientCall.TheVariants.{Duplicate, Close, Acquire, Release, Surface, Desc}
 use Rattle.dd_station.specs.declared.steps.Step.TheVariants.{Draw}
 use Rattle.dd_station.specs.declared.steps.Script.{Script}
-use Rattle.dd_script.specs.Script.{has_items, has_keys, list_of, each, u32_of, i32_of, rect_of, point_of, colour_at, colour_of, colours_in, colours_from, colours_of, fill_of, blit_of, scroll_of, operation_of, operations_of, draw_of, call_named, call_of, step_of, steps_of, mode_of, modes_of, apps_of, parts_of, keeps_limits, has_one_duplicator, script_of}
+use Rattle.dd_script.specs.Script.{has_items, has_keys, list_of, each, u32_of, i32_of, rect_of, point_of, colour_at, colour_of, colours_in, colours_from, colours_of, fill_of, blit_of, scroll_of, operation_of, operations_of, present_of, change_of, switch_of, has_true, session_of, draw_of, call_named, call_of, step_of, steps_of, mode_of, modes_of, apps_of, parts_of, keeps_limits, script_of}
+use Rattle.dd_script.proofs.Holds.{then_holds, always_holds, map_holds, tested_holds, either_holds, key_holds, place_holds}
 use Rattle.dd_script.specs.Spelling.{is_number, is_coordinate, is_point, is_rectangle, is_colour, is_operation, is_drawing, is_call, is_step, is_readable}
 
--- ---- steps that may give nothing
+-- ---- parts that pass a test
 
 abbrev passed : {A : Type 0} → (A → Bool) → A → Type 0
 passed p x = p x ≡ true
@@ -31,48 +34,6 @@ passed p x = p x ≡ true
 -- a value, where there is one, passes the test
 abbrev Passes : {A : Type 0} → (A → Bool) → Option A → Type 0
 Passes p o = IfSome o (passed p)
-
--- what holds after the second step, from what holds after the first
-then_holds : {A B : Type 0} (P : A → Type 0) (Q : B → Type 0) (o : Option A) (f : A → Option B)
-    → IfSome o P → ((x : A) → P x → IfSome (f x) Q) → IfSome (option_and_then f o) Q
-then_holds P Q None f h k = tt
-then_holds P Q (Some x) f h k = k x h
-
--- what holds after the second step, whatever the first gave
-always_holds : {A B : Type 0} (Q : B → Type 0) (o : Option A) (f : A → Option B)
-    → ((x : A) → IfSome (f x) Q) → IfSome (option_and_then f o) Q
-always_holds Q None f k = tt
-always_holds Q (Some x) f k = k x
-
-map_holds : {A B : Type 0} (P : A → Type 0) (Q : B → Type 0) (o : Option A) (f : A → B)
-    → IfSome o P → ((x : A) → P x → Q (f x)) → IfSome (option_map f o) Q
-map_holds P Q None f h k = tt
-map_holds P Q (Some x) f h k = k x h
-
--- a value under a test
-tested_holds : {A : Type 0} (Q : A → Type 0) (b : Bool) (o : Option A)
-    → (b ≡ true → IfSome o Q) → IfSome (cond b o None) Q
-tested_holds Q true o h = h refl
-tested_holds Q false o h = tt
-
-either_holds : {A : Type 0} (Q : A → Type 0) (b : Bool) (o r : Option A)
-    → IfSome o Q → IfSome r Q → IfSome (cond b o r) Q
-either_holds Q true o r h k = h
-either_holds Q false o r h k = k
-
--- what is read at a key, and the step after it
-key_holds : {A B : Type 0} (P : A → Type 0) (Q : B → Type 0) (key : List ℕ) (d : Data)
-    (read : Data → Option A) (f : A → Option B) → ((e : Data) → IfSome (read e) P) → ((x : A) → P x → IfSome (f x) Q)
-    → IfSome (option_and_then f (option_and_then read (get key d))) Q
-key_holds P Q key d read f h k =
-    then_holds P Q (option_and_then read (get key d)) f (always_holds P (get key d) read h) k
-
--- what is read at a place of a list, and the step after it
-place_holds : {A B : Type 0} (P : A → Type 0) (Q : B → Type 0) (n : ℕ) (d : Data)
-    (read : Data → Option A) (f : A → Option B) → ((e : Data) → IfSome (read e) P) → ((x : A) → P x → IfSome (f x) Q)
-    → IfSome (option_and_then f (option_and_then read (at n d))) Q
-place_holds P Q n d read f h k =
-    then_holds P Q (option_and_then read (at n d)) f (always_holds P (at n d) read h) k
 
 -- as many items as there were trees, and each passes
 abbrev AllPassed : {A : Type 0} → (A → Bool) → List Data → List A → Type 0
@@ -234,12 +195,44 @@ operations_pass d =
     IfSome_then (each operation_of ds) (each_passes operation_of is_operation operation_passes ds) (λ ops both.
     and_from _ _ (ap (λ n. nat_le n MAX_OPS) both.0 ∙ few) both.1)))
 
+present_passes : (d : Data) → Passes is_drawing (present_of d)
+unfolding present_of
+present_passes d =
+    key_holds (passed are_operations) (passed is_drawing) (codes "present") d operations_of _ operations_pass (λ ops h.
+    h)
+
+change_passes : (d : Data) → Passes is_drawing (change_of d)
+unfolding change_of
+change_passes d =
+    key_holds (passed is_number) (passed is_drawing) (codes "mode") d u32_of _ number_passes (λ index h. h)
+
+switch_passes : (d : Data) → Passes is_drawing (switch_of d)
+unfolding switch_of
+switch_passes d =
+    always_holds (passed is_drawing) (option_and_then as_bool (get (codes "switch") d)) _ (λ secure. refl)
+
+session_passes : (d : Data) → Passes is_drawing (session_of d)
+unfolding session_of
+session_passes d =
+    let leaves : Bool = has_true (codes "disconnect") d in
+    let comes : Bool = has_true (codes "reconnect") d in
+    let back : Option draws.Draw = cond comes (Some drawings.Reconnect) None in
+    either_holds (passed is_drawing) leaves (Some drawings.Disconnect) back refl
+    (either_holds (passed is_drawing) comes (Some drawings.Reconnect) None refl tt)
+
 drawing_passes : (d : Data) → Passes is_drawing (draw_of d)
 unfolding draw_of
 drawing_passes d =
+    let presents : Bool = is_some (get (codes "present") d) in
+    let changes : Bool = is_some (get (codes "mode") d) in
+    let switches : Bool = is_some (get (codes "switch") d) in
+    let session : Option draws.Draw = session_of d in
+    let switch : Option draws.Draw = cond switches (switch_of d) session in
+    let change : Option draws.Draw = cond changes (change_of d) switch in
     tested_holds (passed is_drawing) (has_keys 1 d) _ (λ _.
-    key_holds (passed are_operations) (passed is_drawing) (codes "present") d operations_of _ operations_pass (λ ops h.
-    h))
+    either_holds (passed is_drawing) presents (present_of d) change (present_passes d)
+    (either_holds (passed is_drawing) changes (change_of d) switch (change_passes d)
+    (either_holds (passed is_drawing) switches (switch_of d) session (switch_passes d) (session_passes d))))
 
 -- ---- steps
 
@@ -247,13 +240,17 @@ named_passes : (name : List ℕ) → Passes is_call (call_named name)
 unfolding call_named
 named_passes name =
     let names : List ℕ → Bool = bytes_eq name in
-    let surface : Option ClientCall = cond (names (codes "surface")) (Some Surface) None in
+    let desc : Option ClientCall = cond (names (codes "desc")) (Some Desc) None in
+    let surface : Option ClientCall = cond (names (codes "surface")) (Some Surface) desc in
     let release : Option ClientCall = cond (names (codes "release")) (Some Release) surface in
     let acquire : Option ClientCall = cond (names (codes "acquire")) (Some (Acquire 0)) release in
-    either_holds (passed is_call) (names (codes "duplicate")) (Some Duplicate) acquire refl
+    let close : Option ClientCall = cond (names (codes "close")) (Some Close) acquire in
+    either_holds (passed is_call) (names (codes "duplicate")) (Some Duplicate) close refl
+    (either_holds (passed is_call) (names (codes "close")) (Some Close) acquire refl
     (either_holds (passed is_call) (names (codes "acquire")) (Some (Acquire 0)) release refl
     (either_holds (passed is_call) (names (codes "release")) (Some Release) surface refl
-    (either_holds (passed is_call) (names (codes "surface")) (Some Surface) None refl tt)))
+    (either_holds (passed is_call) (names (codes "surface")) (Some Surface) desc refl
+    (either_holds (passed is_call) (names (codes "desc")) (Some Desc) None refl tt)))))
 
 call_passes : (d : Data) → Passes is_step (call_of d)
 unfolding call_of
@@ -311,9 +308,7 @@ script_passes : (d : Data) → Passes is_readable (script_of d)
 unfolding script_of is_readable
 script_passes d =
     then_holds (passed parts_in_range) (passed is_readable) (parts_of d) _ (parts_pass d) (λ s h.
-    tested_holds (passed is_readable) (keeps_limits s && has_one_duplicator s) (Some s) (λ k.
-    let both = and_parts (keeps_limits s) (has_one_duplicator s) k in
-    and_from _ _ (and_from _ _ h both.0) both.1))
+    tested_holds (passed is_readable) (keeps_limits s) (Some s) (λ k. and_from _ _ h k))
 
 -- a script that some tree is
 pub is_read : (d : Data) (s : Script) → script_of d ≡ Some s → is_readable s ≡ true

@@ -1,4 +1,8 @@
 pub mod Trees
+pub mod TokenCount
+pub mod TreeSize
+pub mod Holds
+pub mod StepCount
 pub mod Each
 pub mod Runnable
 pub mod Causes

@@ -8,10 +8,11 @@ use Rattle.serde_json.specs.Written.{has_float, items_have_float, members_have_f
 use Rattle.dd_geom.specs.declared.rect.Point.{Point}
 use Rattle.dd_geom.specs.declared.rect.Rect.{Rect}
 use Rattle.dd_geom.specs.declared.rect.Move.{Move}
+use Rattle.dd_modes.specs.declared.modes.Mode.{Mode}
 use Rattle.dd_log.specs.declared.answers.FrameInfo.{FrameInfo}
 use Rattle.dd_log.specs.declared.answers.Answer.{Answer}
 use Rattle.dd_log.specs.declared.answers.Answer.TheVariants as answer
-use Rattle.dd_script.specs.Answers.{count, part, Refusal, point_tree, rect_tree, move_tree, info_tree, frame_tree, row_tree, surface_tree, refusal_tree, answer_tree}
+use Rattle.dd_script.specs.Answers.{count, part, Refusal, point_tree, rect_tree, move_tree, info_tree, frame_tree, row_tree, surface_tree, desc_tree, refusal_tree, answer_tree}
 
 coordinate_has_none : (z : ℤ) → is_float (of_integer z) ≡ false
 coordinate_has_none (pos n) = refl
@@ -48,6 +49,10 @@ unfolding surface_tree
 surface_has_none None = refl
 surface_has_none (Some rows) = rw (list_has_none row_tree (λ _. refl) rows)
 
+desc_has_none : (m : Mode) → has_float (desc_tree m) ≡ false
+unfolding desc_tree
+desc_has_none m = refl
+
 -- a part more, which has none
 part_has_none : {T : Type 0} (key : List ℕ) (f : T → Data) → ((x : T) → has_float (f x) ≡ false)
     → (o : Option T) (ms : Members) → members_have_float (part key (option_map f o) ms) ≡ members_have_float ms
@@ -67,8 +72,11 @@ answer_has_no_float (answer.Entered entry) = refl
 answer_has_no_float (answer.NotDrawn refusal) = refusal_has_none _
 answer_has_no_float (answer.Opened entry slot) = refl
 answer_has_no_float (answer.NotOpened refusal) = refusal_has_none _
+answer_has_no_float (answer.Closed entry) = refl
+answer_has_no_float (answer.NotClosed refusal) = refusal_has_none _
 answer_has_no_float (answer.Frame info moves dirt) = frame_has_none info moves dirt
 answer_has_no_float answer.Released = refl
 answer_has_no_float (answer.Surface rows) = surface_has_none rows
+answer_has_no_float (answer.Desc mode) = desc_has_none mode
 answer_has_no_float (answer.Refused refusal buffer) = refusal_has_none _
 answer_has_no_float answer.NoDuplicator = refusal_has_none _

@@ -23,15 +23,15 @@ use Rattle.dd_ops.specs.declared.operations.Op.{Op}
 use Rattle.dd_ops.specs.declared.operations.Op.TheVariants.{Fill, Blit, Cover, Scroll}
 use Rattle.dd_ops.specs.declared.lists.TheConstants.{MAX_OPS}
 use Rattle.dd_log.specs.declared.events.Draw as draws
-use Rattle.dd_log.specs.declared.events.Draw.TheVariants.{Present}
+use Rattle.dd_log.specs.declared.events.Draw.TheVariants as drawings
 use Rattle.dd_station.specs.declared.steps.ClientCall.{ClientCall}
-use Rattle.dd_station.specs.declared.steps.ClientCall.TheVariants.{Duplicate, Acquire, Release, Surface}
+use Rattle.dd_station.specs.declared.steps.ClientCall.TheVariants.{Duplicate, Close, Acquire, Release, Surface, Desc}
 use Rattle.dd_station.specs.declared.steps.Step.{Step}
 use Rattle.dd_station.specs.declared.steps.Step.TheVariants.{Draw, Call}
 use Rattle.dd_station.specs.declared.steps.Script.{Script}
-use Rattle.dd_script.specs.Answers.{count, coordinate, array_of, point_tree, rect_tree, colour_bytes, row_digits}
-use Rattle.dd_script.specs.Script.{listed, each, u32_of, i32_of, rect_of, point_of, colour_at, colour_of, colours_in, colours_from, colours_of, fill_of, blit_of, scroll_of, operation_of, operations_of, draw_of, call_named, call_of, step_of, steps_of, rotation_numbered, mode_of, modes_of, apps_of, parts_of, keeps_limits, has_one_duplicator, script_of}
-use Rattle.dd_script.specs.Spelling.{colour_tree, colours_tree, op_tree, draw_tree, name_of, step_tree, number_of, mode_tree, spelling, is_number, is_coordinate, is_point, is_rectangle, is_colour, is_operation, is_drawing, is_call, is_step, is_readable, IsReadBack}
+use Rattle.dd_script.specs.Answers.{count, coordinate, array_of, number_of, point_tree, rect_tree, colour_bytes, row_digits}
+use Rattle.dd_script.specs.Script.{listed, each, u32_of, i32_of, rect_of, point_of, colour_at, colour_of, colours_in, colours_from, colours_of, fill_of, blit_of, scroll_of, operation_of, operations_of, present_of, change_of, switch_of, has_true, session_of, draw_of, call_named, call_of, step_of, steps_of, rotation_numbered, mode_of, modes_of, apps_of, parts_of, keeps_limits, script_of}
+use Rattle.dd_script.specs.Spelling.{colour_tree, colours_tree, op_tree, draw_tree, name_of, step_tree, mode_tree, spelling, is_number, is_coordinate, is_point, is_rectangle, is_colour, is_operation, is_drawing, is_call, is_step, is_readable, IsReadBack}
 use Rattle.dd_script.proofs.InRange.{is_read}
 
 -- ---- lists
@@ -179,25 +179,35 @@ op_back (Scroll m) h =
     rw (rect_back m.dest both.1, point_back m.source both.0) refl
 
 draw_back : (d : draws.Draw) → is_drawing d ≡ true → draw_of (draw_tree d) ≡ Some d
-unfolding draw_tree draw_of operations_of
-draw_back (Present ops) h =
+unfolding draw_tree draw_of operations_of present_of change_of switch_of has_true session_of
+draw_back (drawings.Present ops) h =
     let both = and_parts (nat_le (length ops) MAX_OPS) (list_all is_operation ops) h in
     let few : nat_le (length (spelled op_tree ops)) MAX_OPS ≡ true =
     ap (λ n. nat_le n MAX_OPS) (length-spelled op_tree ops) ∙ both.0 in
     rw (few, each_back operation_of op_tree is_operation op_back ops both.1) refl
+draw_back (drawings.Mode index) h = rw (number_back index h) refl
+draw_back (drawings.Switch secure) h = refl
+draw_back drawings.Disconnect h = refl
+draw_back drawings.Reconnect h = refl
 
 -- ---- steps
 
 name_back : (c : ClientCall) → is_call c ≡ true → call_named (name_of c) ≡ Some c
 unfolding call_named
 name_back Duplicate h = refl
+name_back Close h = refl
 name_back (Acquire timeout) h = ap (λ n. Some (Acquire n)) (sym (eqb-true timeout 0 h))
 name_back Release h = refl
 name_back Surface h = refl
+name_back Desc h = refl
 
 step_back : (s : Step) → is_step s ≡ true → step_of (step_tree s) ≡ Some s
 unfolding step_tree draw_tree step_of call_of
-step_back (Draw (Present ops)) h = ap (option_map Draw) (draw_back (Present ops) h)
+step_back (Draw (drawings.Present ops)) h = ap (option_map Draw) (draw_back (drawings.Present ops) h)
+step_back (Draw (drawings.Mode index)) h = ap (option_map Draw) (draw_back (drawings.Mode index) h)
+step_back (Draw (drawings.Switch secure)) h = ap (option_map Draw) (draw_back (drawings.Switch secure) h)
+step_back (Draw drawings.Disconnect) h = ap (option_map Draw) (draw_back drawings.Disconnect h)
+step_back (Draw drawings.Reconnect) h = ap (option_map Draw) (draw_back drawings.Reconnect h)
 step_back (Call client call) h =
     let both = and_parts (is_number client) (is_call call) h in
     rw (number_back client both.0, name_back call both.1) refl
@@ -254,8 +264,7 @@ steps_back ss h = each_back step_of step_tree is_step step_back ss h
 pub script_back : (s : Script) → is_readable s ≡ true → IsReadBack s
 unfolding is_readable script_of spelling parts_of
 script_back s h =
-    let one = and_parts _ (has_one_duplicator s) h in
-    let limits = and_parts _ (keeps_limits s) one.0 in
+    let limits = and_parts _ (keeps_limits s) h in
     let steps = and_parts _ (list_all is_step s.steps) limits.0 in
     let clients = and_parts _ (list_all is_number s.clients) steps.0 in
     let privileged = and_parts _ (list_all is_number s.spec.privileged) clients.0 in
@@ -264,7 +273,7 @@ script_back s h =
     let number = number_back s.spec.capacity capacity.1 in
     let apps = apps_back s.spec.privileged privileged.1 in
     let clients_too = apps_back s.clients clients.1 in
-    rw (modes, number, apps, clients_too, steps_back s.steps steps.1, limits.1, one.1) refl
+    rw (modes, number, apps, clients_too, steps_back s.steps steps.1, limits.1) refl
 
 -- each script that some tree is
 pub read_back : (d : Data) (s : Script) → script_of d ≡ Some s → IsReadBack s

@@ -1,17 +1,18 @@
 -- Texts that are scripts or parts of scripts, and texts that are none, each read by the definitions.
-use Rattle.std.proofs.Common.{◌≡◌, ℕ, Bool, true, List, [], ◌∷◌, Option, Some, refl, codes, option_and_then, pos, negsuc, replicate}
+use Rattle.std.proofs.Common.{◌≡◌, ℕ, Bool, true, false, List, [], ◌∷◌, Option, Some, refl, codes, option_and_then, pos, negsuc, replicate}
 use Rattle.std.specs.Prelude.{is_none, is_some}
 use Rattle.std.specs.List.{list_all}
 use Rattle.serde_json.specs.Data.{Data, array}
 use Rattle.serde_json.specs.Read.{read}
 use Rattle.serde_json.specs.View.{items_of}
-use Rattle.dd_modes.specs.declared.modes.Rotation.TheVariants.{Identity, Rotate270}
+use Rattle.dd_modes.specs.declared.modes.Rotation.TheVariants.{Identity, Rotate90, Rotate270}
 use Rattle.dd_ops.specs.declared.operations.Op.TheVariants.{Fill, Blit, Scroll}
-use Rattle.dd_log.specs.declared.events.Draw.TheVariants.{Present}
-use Rattle.dd_station.specs.declared.steps.ClientCall.TheVariants.{Duplicate, Acquire, Surface}
+use Rattle.dd_log.specs.declared.events.Draw.TheVariants.{Present, Switch, Disconnect, Reconnect}
+use Rattle.dd_log.specs.declared.events.Draw.TheVariants as drawings
+use Rattle.dd_station.specs.declared.steps.ClientCall.TheVariants.{Duplicate, Close, Acquire, Surface, Desc}
 use Rattle.dd_station.specs.declared.steps.Step.TheVariants.{Draw, Call}
 use Rattle.dd_station.specs.declared.steps.Script.{Script}
-use Rattle.dd_script.specs.Script.{rect_of, colour_of, operation_of, operations_of, step_of, modes_of, script_of}
+use Rattle.dd_script.specs.Script.{rect_of, colour_of, operation_of, operations_of, step_of, steps_of, modes_of, script_of}
 use Rattle.dd_script.proofs.OnLiterals.{script_on_literals}
 
 -- what a text is, where its tree is read by f
@@ -47,6 +48,16 @@ no_step : read_text (codes "{\"steps\":[],\"clients\":[4294967295],\"privileged\
 unfolding script_on_literals
 no_step = refl
 
+-- two modes, a privileged application and two clients: a secure desktop, and a session that is disconnected
+two_clients : read_text (codes "{\"modes\":[[4,3,1],[3,4,2]],\"capacity\":100,\"privileged\":[9],\"clients\":[1,9],\"steps\":[{\"switch\":true},{\"client\":1,\"call\":\"duplicate\"},{\"client\":2,\"call\":\"duplicate\"},{\"disconnect\":true},{\"client\":1,\"call\":\"duplicate\"},{\"client\":2,\"call\":\"acquire\"}]}")
+    ≡ Some (record {
+      spec = record { modes = record { width = 4; height = 3; rotation = Identity } ∷ record { width = 3; height = 4; rotation = Rotate90 } ∷ []; capacity = 100; privileged = 9 ∷ [] };
+      clients = 1 ∷ 9 ∷ [];
+      steps = Draw (Switch true) ∷ Call 1 Duplicate ∷ Call 2 Duplicate ∷ Draw Disconnect ∷ Call 1 Duplicate ∷ Call 2 (Acquire 0) ∷ [];
+    })
+unfolding script_on_literals
+two_clients = refl
+
 -- rectangles that lie outside the mode, and too few colours, are a script
 drawn_outside : read_text (codes "{\"modes\":[[2,1,1]],\"capacity\":9,\"privileged\":[],\"clients\":[1],\"steps\":[{\"client\":1,\"call\":\"duplicate\"},{\"present\":[{\"fill\":[0,0,3,1],\"colour\":\"000000\"},{\"blit\":[-5,7,9,8],\"colours\":\"0000ff\"},{\"scroll\":[1,0,0,9],\"from\":[0,3]}]}]}")
     ≡ Some (record {
@@ -72,22 +83,18 @@ no_scripts : are_refused script_of
     -- a part is missing, a further key
     ∷ codes "{\"modes\":[[1,1,1]],\"capacity\":9,\"privileged\":[],\"clients\":[1]}"
     ∷ codes "{\"modes\":[[1,1,1]],\"capacity\":9,\"privileged\":[],\"clients\":[1],\"steps\":[],\"more\":0}"
-    -- a capacity with a fraction, with an exponent, of nothing, past the greatest, of the steps alone
+    -- a capacity with a fraction, with an exponent, of nothing, past the greatest
     ∷ codes "{\"modes\":[[1,1,1]],\"capacity\":10.0,\"privileged\":[],\"clients\":[1],\"steps\":[]}"
     ∷ codes "{\"modes\":[[1,1,1]],\"capacity\":1e1,\"privileged\":[],\"clients\":[1],\"steps\":[]}"
     ∷ codes "{\"modes\":[[1,1,1]],\"capacity\":0,\"privileged\":[],\"clients\":[1],\"steps\":[]}"
     ∷ codes "{\"modes\":[[1,1,1]],\"capacity\":1048577,\"privileged\":[],\"clients\":[1],\"steps\":[]}"
-    ∷ codes "{\"modes\":[[1,1,1]],\"capacity\":1,\"privileged\":[],\"clients\":[1],\"steps\":[{\"client\":1,\"call\":\"duplicate\"}]}"
-    -- two modes, a privileged application, no client, two clients
-    ∷ codes "{\"modes\":[[1,1,1],[2,1,1]],\"capacity\":9,\"privileged\":[],\"clients\":[1],\"steps\":[]}"
-    ∷ codes "{\"modes\":[[1,1,1]],\"capacity\":9,\"privileged\":[1],\"clients\":[1],\"steps\":[]}"
+    -- no client, seventeen of them, seventeen privileged applications
     ∷ codes "{\"modes\":[[1,1,1]],\"capacity\":9,\"privileged\":[],\"clients\":[],\"steps\":[]}"
-    ∷ codes "{\"modes\":[[1,1,1]],\"capacity\":9,\"privileged\":[],\"clients\":[1,2],\"steps\":[]}"
-    -- a present before the opening, a second opening, a client past the last, client 0
-    ∷ codes "{\"modes\":[[2,1,1]],\"capacity\":9,\"privileged\":[],\"clients\":[1],\"steps\":[{\"present\":[]},{\"client\":1,\"call\":\"duplicate\"}]}"
-    ∷ codes "{\"modes\":[[2,1,1]],\"capacity\":9,\"privileged\":[],\"clients\":[1],\"steps\":[{\"client\":1,\"call\":\"duplicate\"},{\"client\":1,\"call\":\"duplicate\"}]}"
-    ∷ codes "{\"modes\":[[2,1,1]],\"capacity\":9,\"privileged\":[],\"clients\":[1],\"steps\":[{\"client\":2,\"call\":\"duplicate\"}]}"
-    ∷ codes "{\"modes\":[[2,1,1]],\"capacity\":9,\"privileged\":[],\"clients\":[1],\"steps\":[{\"client\":0,\"call\":\"duplicate\"}]}"
+    ∷ codes "{\"modes\":[[1,1,1]],\"capacity\":9,\"privileged\":[],\"clients\":[1,2,3,4,5,6,7,8,9,1,2,3,4,5,6,7,8],\"steps\":[]}"
+    ∷ codes "{\"modes\":[[1,1,1]],\"capacity\":9,\"privileged\":[1,2,3,4,5,6,7,8,9,1,2,3,4,5,6,7,8],\"clients\":[1],\"steps\":[]}"
+    -- a client past the last, client 0
+    ∷ codes "{\"modes\":[[2,1,1]],\"capacity\":9,\"privileged\":[],\"clients\":[1],\"steps\":[{\"client\":2,\"call\":\"close\"}]}"
+    ∷ codes "{\"modes\":[[2,1,1]],\"capacity\":9,\"privileged\":[],\"clients\":[1],\"steps\":[{\"client\":0,\"call\":\"desc\"}]}"
     ∷ []) ≡ true
 unfolding script_on_literals
 no_scripts = refl
@@ -117,13 +124,15 @@ no_colours : are_refused colour_of
 unfolding script_on_literals
 no_colours = refl
 
--- the greatest mode, and one with too many pixels, a fifth rotation, no side, and no mode
+-- the greatest mode, and one with too many pixels, a fifth rotation, no side, no mode, and seventeen
 greatest_mode : read_by modes_of (codes "[[8192,2048,4]]") ≡ Some (record { width = 8192; height = 2048; rotation = Rotate270 } ∷ [])
 unfolding script_on_literals
 greatest_mode = refl
 
 no_modes : are_refused modes_of
-    (codes "[[8192,2049,4]]" ∷ codes "[[8193,1,0]]" ∷ codes "[[1,1,5]]" ∷ codes "[[0,1,1]]" ∷ codes "[[1,1]]" ∷ codes "[]" ∷ []) ≡ true
+    (codes "[[8192,2049,4]]" ∷ codes "[[8193,1,0]]" ∷ codes "[[1,1,5]]" ∷ codes "[[0,1,1]]" ∷ codes "[[1,1]]" ∷ codes "[]"
+    ∷ codes "[[1,1,0],[1,1,0],[1,1,0],[1,1,0],[1,1,0],[1,1,0],[1,1,0],[1,1,0],[1,1,0],[1,1,0],[1,1,0],[1,1,0],[1,1,0],[1,1,0],[1,1,0],[1,1,0],[1,1,0]]"
+    ∷ []) ≡ true
 unfolding script_on_literals
 no_modes = refl
 
@@ -187,13 +196,33 @@ no_operation : read_by step_of (codes "{\"present\":[]}") ≡ Some (Draw (Presen
 unfolding script_on_literals
 no_operation = refl
 
+-- what is drawn beside presents, and calls anywhere in a list
+steps_of_each_kind : read_by steps_of (codes "[{\"mode\":4294967295},{\"switch\":false},{\"disconnect\":true},{\"reconnect\":true},{\"call\":\"close\",\"client\":16},{\"client\":2,\"call\":\"desc\"},{\"client\":1,\"call\":\"duplicate\"}]")
+    ≡ Some (Draw (drawings.Mode 4294967295) ∷ Draw (Switch false) ∷ Draw Disconnect ∷ Draw Reconnect ∷ Call 16 Close ∷ Call 2 Desc ∷ Call 1 Duplicate ∷ [])
+unfolding script_on_literals
+steps_of_each_kind = refl
+
 -- an unknown call, a call that is no text, a timeout, a present beside a client, a further key
 no_steps : are_refused step_of
-    (codes "{\"client\":1,\"call\":\"close\"}"
+    (codes "{\"client\":1,\"call\":\"moves\"}"
+    ∷ codes "{\"client\":1,\"call\":\"dirty\",\"buffer\":0}"
     ∷ codes "{\"client\":1,\"call\":0}"
     ∷ codes "{\"client\":1,\"call\":\"acquire\",\"timeout\":0}"
     ∷ codes "{\"client\":1,\"present\":[]}"
     ∷ codes "{\"present\":[],\"at\":0}"
+    -- an index past the greatest, below 0 and that is no number, a desktop that is no truth value
+    ∷ codes "{\"mode\":4294967296}"
+    ∷ codes "{\"mode\":-1}"
+    ∷ codes "{\"mode\":[4,3,1]}"
+    ∷ codes "{\"switch\":1}"
+    -- a session that isn't disconnected or connected again, two drawings in one, a word that names none
+    ∷ codes "{\"disconnect\":false}"
+    ∷ codes "{\"reconnect\":false}"
+    ∷ codes "{\"reconnect\":1}"
+    ∷ codes "{\"disconnect\":true,\"reconnect\":true}"
+    ∷ codes "{\"mode\":0,\"switch\":true}"
+    ∷ codes "{\"pointer\":[0,0],\"visible\":true}"
+    ∷ codes "{\"end\":true}"
     ∷ []) ≡ true
 unfolding script_on_literals
 no_steps = refl

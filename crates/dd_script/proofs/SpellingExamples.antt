@@ -3,19 +3,21 @@ use Rattle.std.proofs.Common.{◌≡◌, ◌^◌, [], ◌∷◌, ℕ, true, fals
 use Rattle.serde_json.specs.Written.{compact_text}
 use Rattle.dd_modes.specs.declared.modes.Rotation.TheVariants.{Identity}
 use Rattle.dd_modes.specs.declared.modes.TheConstants.{MAX_MODES}
+use Rattle.dd_modes.specs.Modes.{is_mode, are_modes}
 use Rattle.dd_ops.specs.declared.operations.Op.TheVariants.{Fill, Blit, Scroll}
 use Rattle.dd_grid.specs.declared.cell.TheConstants.{COLOURS}
 use Rattle.dd_ops.specs.declared.lists.TheConstants.{MAX_OPS}
-use Rattle.dd_log.specs.declared.events.Draw.TheVariants.{Present}
+use Rattle.dd_log.specs.declared.events.Draw.TheVariants.{Present, Switch, Disconnect, Reconnect}
+use Rattle.dd_log.specs.declared.events.Draw.TheVariants as drawings
 use Rattle.dd_log.specs.declared.events.TheConstants.{MAX_CAPACITY}
-use Rattle.dd_station.specs.declared.steps.ClientCall.TheVariants.{Duplicate, Acquire, Release, Surface}
+use Rattle.dd_station.specs.declared.steps.ClientCall.TheVariants.{Duplicate, Close, Acquire, Release, Surface, Desc}
 use Rattle.dd_station.specs.declared.steps.Step.TheVariants.{Draw, Call}
 use Rattle.dd_station.specs.declared.steps.Script.{Script}
 use Rattle.dd_station.specs.declared.steps.TheConstants.{MAX_CLIENTS}
 use Rattle.dd_log.specs.declared.events.TheConstants.{MAX_PRIVILEGED}
 use Rattle.dd_script.specs.Script.{keeps_limits}
 use Rattle.dd_script.proofs.OnLiterals.{answers_on_literals}
-use Rattle.dd_script.specs.Spelling.{op_tree, draw_tree, step_tree, mode_tree, spelling}
+use Rattle.dd_script.specs.Spelling.{op_tree, draw_tree, step_tree, mode_tree, spelling, is_readable}
 
 -- ---- limits
 
@@ -63,7 +65,7 @@ past_a_limit = refl
 
 -- ---- texts
 
--- a script that names each kind of operation and each call
+-- a script that names each kind of drawing and of operation, and each call
 abbrev each_kind : Script
 each_kind =
     record {
@@ -75,10 +77,15 @@ each_kind =
           ∷ Blit (record { left = negsuc 4; top = pos 7; right = pos 9; bottom = pos 8 }) (255 ∷ 0x010203 ∷ [])
           ∷ Scroll (record { source = record { x = pos 5; y = pos 6 }; dest = record { left = pos 1; top = pos 0; right = pos 2; bottom = pos 9 } })
           ∷ []))
-          ∷ Call 2 (Acquire 0) ∷ Call 1 Release ∷ Call 1 Surface ∷ [];
+          ∷ Draw (drawings.Mode 4294967295) ∷ Draw (Switch false) ∷ Draw (Switch true) ∷ Draw Disconnect ∷ Draw Reconnect
+          ∷ Call 2 (Acquire 0) ∷ Call 1 Release ∷ Call 1 Surface ∷ Call 1 Desc ∷ Call 2 Close ∷ [];
     }
 
+each_kind_is_readable : is_readable each_kind ≡ true
+unfolding is_readable keeps_limits are_modes is_mode
+each_kind_is_readable = refl
+
 text_of_each_kind : compact_text (spelling each_kind)
-    ≡ codes "{\"capacity\":100,\"clients\":[1,4294967295],\"modes\":[[4,3,1]],\"privileged\":[7],\"steps\":[{\"call\":\"duplicate\",\"client\":1},{\"present\":[{\"colour\":\"ff8001\",\"fill\":[1,2,3,4]},{\"blit\":[-5,7,9,8],\"colours\":\"0000ff010203\"},{\"from\":[5,6],\"scroll\":[1,0,2,9]}]},{\"call\":\"acquire\",\"client\":2},{\"call\":\"release\",\"client\":1},{\"call\":\"surface\",\"client\":1}]}"
+    ≡ codes "{\"capacity\":100,\"clients\":[1,4294967295],\"modes\":[[4,3,1]],\"privileged\":[7],\"steps\":[{\"call\":\"duplicate\",\"client\":1},{\"present\":[{\"colour\":\"ff8001\",\"fill\":[1,2,3,4]},{\"blit\":[-5,7,9,8],\"colours\":\"0000ff010203\"},{\"from\":[5,6],\"scroll\":[1,0,2,9]}]},{\"mode\":4294967295},{\"switch\":false},{\"switch\":true},{\"disconnect\":true},{\"reconnect\":true},{\"call\":\"acquire\",\"client\":2},{\"call\":\"release\",\"client\":1},{\"call\":\"surface\",\"client\":1},{\"call\":\"desc\",\"client\":1},{\"call\":\"close\",\"client\":2}]}"
 unfolding answers_on_literals spelling mode_tree step_tree draw_tree op_tree
 text_of_each_kind = refl

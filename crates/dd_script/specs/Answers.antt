@@ -9,6 +9,9 @@ use Rattle.serde_json.specs.View.{items_of}
 use Rattle.dd_geom.specs.declared.rect.Point.{Point}
 use Rattle.dd_geom.specs.declared.rect.Rect.{Rect}
 use Rattle.dd_geom.specs.declared.rect.Move.{Move}
+use Rattle.dd_modes.specs.declared.modes.Mode.{Mode}
+use Rattle.dd_modes.specs.declared.modes.Rotation.{Rotation}
+use Rattle.dd_modes.specs.declared.modes.Rotation.TheVariants.{Unspecified, Identity, Rotate90, Rotate180, Rotate270}
 use Rattle.dd_log.specs.declared.answers.FrameInfo.{FrameInfo}
 use Rattle.dd_log.specs.declared.answers.Answer.{Answer}
 use Rattle.dd_log.specs.declared.answers.Answer.TheVariants as answer
@@ -16,6 +19,8 @@ use Rattle.dd_log.specs.declared.answers.LogRefusal.{LogRefusal}
 use Rattle.dd_log.specs.declared.answers.LogRefusal.TheVariants as drawing
 use Rattle.dd_log.specs.declared.answers.OpenRefusal.{OpenRefusal}
 use Rattle.dd_log.specs.declared.answers.OpenRefusal.TheVariants as opening
+use Rattle.dd_log.specs.declared.answers.CloseRefusal.{CloseRefusal}
+use Rattle.dd_log.specs.declared.answers.CloseRefusal.TheVariants as closing
 use Rattle.dd_log.specs.declared.answers.DupRefusal.{DupRefusal}
 use Rattle.dd_log.specs.declared.answers.DupRefusal.TheVariants as call
 
@@ -94,18 +99,45 @@ rows_tree (Some rows) = array_of row_tree rows
 unfoldable pub surface_tree : Option (List (List ℕ)) → Data
 surface_tree rows = object (member (codes "surface") (rows_tree rows) no_members)
 
+-- ---- descriptions
+
+-- the rotations as the API numbers them
+abbrev pub number_of : Rotation → ℕ
+number_of Unspecified = 0
+number_of Identity = 1
+number_of Rotate90 = 2
+number_of Rotate180 = 3
+number_of Rotate270 = 4
+
+unfoldable pub desc_tree : Mode → Data
+desc_tree m =
+    object
+    (member (codes "height") (count m.height)
+    (member (codes "rotation") (count (number_of m.rotation))
+    (member (codes "width") (count m.width)
+    no_members)))
+
 -- ---- refusals
 
--- the codes, as eight hexadecimal digits: DXGI_ERROR_INVALID_CALL, DXGI_ERROR_WAIT_TIMEOUT,
--- DXGI_ERROR_NOT_CURRENTLY_AVAILABLE and E_INVALIDARG
+-- the codes, as eight hexadecimal digits: DXGI_ERROR_ACCESS_LOST, DXGI_ERROR_INVALID_CALL, DXGI_ERROR_WAIT_TIMEOUT,
+-- E_ACCESSDENIED, DXGI_ERROR_NOT_CURRENTLY_AVAILABLE, DXGI_ERROR_SESSION_DISCONNECTED and E_INVALIDARG
+abbrev pub access_lost : List ℕ
+access_lost = codes "887a0026"
+
 abbrev pub invalid_call : List ℕ
 invalid_call = codes "887a0001"
 
 abbrev pub wait_timeout : List ℕ
 wait_timeout = codes "887a0027"
 
+abbrev pub access_denied : List ℕ
+access_denied = codes "80070005"
+
 abbrev pub not_available : List ℕ
 not_available = codes "887a0022"
+
+abbrev pub session_disconnected : List ℕ
+session_disconnected = codes "887a0028"
 
 abbrev pub invalid_argument : List ℕ
 invalid_argument = codes "80070057"
@@ -141,17 +173,29 @@ refusal_tree r =
     no_members))))
 
 abbrev pub refused_drawing : LogRefusal → Refusal
+refused_drawing drawing.Ended = named (codes "Ended")
 refused_drawing drawing.Full = named (codes "Full")
+refused_drawing drawing.BadMode = record (named (codes "BadMode")) { code = Some invalid_argument }
 refused_drawing (drawing.BadRect op) = record (named (codes "BadRect")) { code = Some invalid_argument; op = Some op }
 
 abbrev pub refused_opening : OpenRefusal → Refusal
+refused_opening opening.SessionDisconnected =
+    record (named (codes "SessionDisconnected")) { code = Some session_disconnected }
+refused_opening opening.AccessDenied = record (named (codes "AccessDenied")) { code = Some access_denied }
 refused_opening opening.AlreadyDuplicating =
     record (named (codes "AlreadyDuplicating")) { code = Some invalid_argument }
 refused_opening opening.NotAvailable = record (named (codes "NotAvailable")) { code = Some not_available }
 refused_opening opening.Full = named (codes "Full")
 
+abbrev pub refused_closing : CloseRefusal → Refusal
+refused_closing closing.NoDuplicator = named (codes "NoDuplicator")
+refused_closing closing.Ended = named (codes "Ended")
+refused_closing closing.Full = named (codes "Full")
+
 -- a refused call, with the whole buffer that it was given, if any
 abbrev pub refused_call : DupRefusal → Option (List ℕ) → Refusal
+refused_call call.AccessLost buffer =
+    record (named (codes "AccessLost")) { code = Some access_lost; buffer = buffer }
 refused_call call.InvalidCall buffer =
     record (named (codes "InvalidCall")) { code = Some invalid_call; buffer = buffer }
 refused_call call.WaitTimeout buffer =
@@ -170,9 +214,12 @@ answer_tree (answer.NotDrawn refusal) = refusal_tree (refused_drawing refusal)
 answer_tree (answer.Opened entry slot) =
     object (member (codes "entry") (count entry) (member (codes "slot") (count slot) no_members))
 answer_tree (answer.NotOpened refusal) = refusal_tree (refused_opening refusal)
+answer_tree (answer.Closed entry) = object (member (codes "entry") (count entry) no_members)
+answer_tree (answer.NotClosed refusal) = refusal_tree (refused_closing refusal)
 answer_tree (answer.Frame info moves dirt) = frame_tree info moves dirt
 answer_tree answer.Released = object (member (codes "released") (boolean true) no_members)
 answer_tree (answer.Surface rows) = surface_tree rows
+answer_tree (answer.Desc mode) = desc_tree mode
 answer_tree (answer.Refused refusal buffer) = refusal_tree (refused_call refusal buffer)
 answer_tree answer.NoDuplicator = refusal_tree refused_client
 

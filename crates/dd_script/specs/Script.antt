@@ -1,12 +1,12 @@
 -- Which JSON trees are scripts, and of which script: one definition for each form, in the order of its parts.
-use Rattle.std.specs.Prelude.{ℕ, zero, suc, ◌^◌, ◌≤◌, ◌<◌, ◌+◌, ◌-◌, ◌*◌, ◌/◌, ◌%◌, ℤ, pos, negsuc, int_le, nat_lt, nat_le, ◌==◌, Bool, true, false, ◌&&◌, not, if◌then◌else◌, codes, List, [], ◌∷◌, length, map, slice_index_or, Option, Some, None, is_some, option_map, option_and_then}
+use Rattle.std.specs.Prelude.{ℕ, zero, suc, ◌^◌, ◌≤◌, ◌+◌, ◌*◌, ◌/◌, ◌%◌, ℤ, pos, negsuc, int_le, nat_lt, nat_le, ◌==◌, Bool, true, false, ◌&&◌, if◌then◌else◌, codes, List, [], ◌∷◌, length, map, slice_index_or, Option, Some, None, is_some, option_map, option_and_then}
 use Rattle.std.specs.Option.{option_map_or}
 use Rattle.std.specs.Result.{result_ok}
 use Rattle.std.specs.List.{list_all, range_with_len, AllByRecursion}
 use Rattle.std.specs.Int.{w32, from_be_bytes}
 use Rattle.std.specs.Str.{bytes_eq}
 use Rattle.serde_json.specs.Data.{Data, Items, no_items, item, Members, no_members, member}
-use Rattle.serde_json.specs.Find.{get, at, as_number, as_u64, as_i64, as_str, as_array, as_object}
+use Rattle.serde_json.specs.Find.{get, at, as_bool, as_number, as_u64, as_i64, as_str, as_array, as_object}
 use Rattle.hex.specs.Hex.{decode_of, decode_sized}
 use Rattle.dd_geom.specs.declared.rect.Point.{Point}
 use Rattle.dd_geom.specs.declared.rect.Rect.{Rect}
@@ -18,9 +18,9 @@ use Rattle.dd_ops.specs.declared.operations.Op.{Op}
 use Rattle.dd_ops.specs.declared.operations.Op.TheVariants.{Fill, Blit, Scroll}
 use Rattle.dd_ops.specs.declared.lists.TheConstants.{MAX_OPS}
 use Rattle.dd_log.specs.declared.events.Draw as draws
-use Rattle.dd_log.specs.declared.events.Draw.TheVariants.{Present}
+use Rattle.dd_log.specs.declared.events.Draw.TheVariants as drawings
 use Rattle.dd_station.specs.declared.steps.ClientCall.{ClientCall}
-use Rattle.dd_station.specs.declared.steps.ClientCall.TheVariants.{Duplicate, Acquire, Release, Surface}
+use Rattle.dd_station.specs.declared.steps.ClientCall.TheVariants.{Duplicate, Close, Acquire, Release, Surface, Desc}
 use Rattle.dd_station.specs.declared.steps.Step.{Step}
 use Rattle.dd_station.specs.declared.steps.Step.TheVariants.{Draw, Call}
 use Rattle.dd_station.specs.declared.steps.Script.{Script}
@@ -161,10 +161,42 @@ operations_of d = do
   if nat_le (length ds) MAX_OPS then each operation_of ds else None
 
 -- {"present":[operations]}
-unfoldable pub draw_of : Data → Option draws.Draw
-draw_of d = if has_keys 1 d then (do
+unfoldable pub present_of : Data → Option draws.Draw
+present_of d = do
   ops ← get (codes "present") d >>= operations_of
-  Some (Present ops)) else None
+  Some (drawings.Present ops)
+
+-- {"mode":index}
+unfoldable pub change_of : Data → Option draws.Draw
+change_of d = do
+  index ← get (codes "mode") d >>= u32_of
+  Some (drawings.Mode index)
+
+-- {"switch":secure}
+unfoldable pub switch_of : Data → Option draws.Draw
+switch_of d = do
+  secure ← get (codes "switch") d >>= as_bool
+  Some (drawings.Switch secure)
+
+-- the key's value is true
+unfoldable pub has_true : List ℕ → Data → Bool
+has_true key d = option_map_or (λ b. b) (get key d >>= as_bool) false
+
+-- {"disconnect":true}, {"reconnect":true}
+unfoldable pub session_of : Data → Option draws.Draw
+session_of d =
+    if has_true (codes "disconnect") d then Some drawings.Disconnect
+    else if has_true (codes "reconnect") d then Some drawings.Reconnect
+    else None
+
+-- a drawing has one key, which tells its kind
+unfoldable pub draw_of : Data → Option draws.Draw
+draw_of d =
+    if has_keys 1 d then (
+    if is_some (get (codes "present") d) then present_of d
+    else if is_some (get (codes "mode") d) then change_of d
+    else if is_some (get (codes "switch") d) then switch_of d
+    else session_of d) else None
 
 -- ---- steps
 
@@ -172,9 +204,11 @@ draw_of d = if has_keys 1 d then (do
 unfoldable pub call_named : List ℕ → Option ClientCall
 call_named name =
     if bytes_eq name (codes "duplicate") then Some Duplicate
+    else if bytes_eq name (codes "close") then Some Close
     else if bytes_eq name (codes "acquire") then Some (Acquire 0)
     else if bytes_eq name (codes "release") then Some Release
     else if bytes_eq name (codes "surface") then Some Surface
+    else if bytes_eq name (codes "desc") then Some Desc
     else None
 
 -- {"client":k,"call":name}
@@ -249,29 +283,11 @@ keeps_limits s =
     && nat_le 1 (length s.clients) && nat_le (length s.clients) MAX_CLIENTS
     && list_all (has_client (length s.clients)) s.steps
 
-abbrev pub is_duplicate : Step → Bool
-is_duplicate (Call client Duplicate) = true
-is_duplicate (Call client (Acquire timeout)) = false
-is_duplicate (Call client Release) = false
-is_duplicate (Call client Surface) = false
-is_duplicate (Draw drawing) = false
-
--- no step, or the first opens a duplicator and no other does
-abbrev pub opens_first : List Step → Bool
-opens_first [] = true
-opens_first (s ∷ ss) = is_duplicate s && list_all (λ t. not (is_duplicate t)) ss
-
--- one mode, one client that opens before all else, and room for an entry of each step
-unfoldable pub has_one_duplicator : Script → Bool
-has_one_duplicator s =
-    length s.spec.modes == 1 && length s.spec.privileged == 0 && length s.clients == 1
-    && nat_lt (length s.steps) s.spec.capacity && opens_first s.steps
-
 -- the script that a tree is
 unfoldable pub script_of : Data → Option Script
 script_of d = do
   s ← parts_of d
-  if keeps_limits s && has_one_duplicator s then Some s else None
+  if keeps_limits s then Some s else None
 
 -- ---- what holds of each script
 
@@ -281,4 +297,3 @@ pub record IsRunnable (s : Script) : Type 0 where
   pub some : 1 ≤ length s.clients
   pub few : length s.clients ≤ MAX_CLIENTS
   pub calls : AllByRecursion (IsOfClient (length s.clients)) s.steps
-  pub count : length s.steps < 2 ^ 32 - 1

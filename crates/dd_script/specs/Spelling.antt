@@ -2,26 +2,24 @@
 use Rattle.std.specs.Prelude.{◌≡◌, ℕ, ◌^◌, ℤ, pos, negsuc, int_le, nat_lt, nat_le, ◌==◌, Bool, true, false, ◌&&◌, codes, List, length, Some}
 use Rattle.std.specs.List.{list_all}
 use Rattle.hex.specs.Hex.{encode_lower}
-use Rattle.serde_json.specs.Data.{Data, string, array, object, item, no_items, member, no_members}
+use Rattle.serde_json.specs.Data.{Data, boolean, string, array, object, item, no_items, member, no_members}
 use Rattle.dd_geom.specs.declared.rect.Point.{Point}
 use Rattle.dd_geom.specs.declared.rect.Rect.{Rect}
 use Rattle.dd_modes.specs.declared.modes.Mode.{Mode}
-use Rattle.dd_modes.specs.declared.modes.Rotation.{Rotation}
-use Rattle.dd_modes.specs.declared.modes.Rotation.TheVariants.{Unspecified, Identity, Rotate90, Rotate180, Rotate270}
 use Rattle.dd_modes.specs.Modes.{are_modes}
 use Rattle.dd_ops.specs.declared.operations.Op.{Op}
 use Rattle.dd_ops.specs.declared.operations.Op.TheVariants.{Fill, Blit, Cover, Scroll}
 use Rattle.dd_grid.specs.declared.cell.TheConstants.{COLOURS}
 use Rattle.dd_ops.specs.declared.lists.TheConstants.{MAX_OPS}
 use Rattle.dd_log.specs.declared.events.Draw as draws
-use Rattle.dd_log.specs.declared.events.Draw.TheVariants.{Present}
+use Rattle.dd_log.specs.declared.events.Draw.TheVariants as drawings
 use Rattle.dd_station.specs.declared.steps.ClientCall.{ClientCall}
-use Rattle.dd_station.specs.declared.steps.ClientCall.TheVariants.{Duplicate, Acquire, Release, Surface}
+use Rattle.dd_station.specs.declared.steps.ClientCall.TheVariants.{Duplicate, Close, Acquire, Release, Surface, Desc}
 use Rattle.dd_station.specs.declared.steps.Step.{Step}
 use Rattle.dd_station.specs.declared.steps.Step.TheVariants.{Draw, Call}
 use Rattle.dd_station.specs.declared.steps.Script.{Script}
-use Rattle.dd_script.specs.Answers.{count, array_of, point_tree, rect_tree, colour_bytes, row_digits}
-use Rattle.dd_script.specs.Script.{keeps_limits, has_one_duplicator, script_of}
+use Rattle.dd_script.specs.Answers.{count, array_of, number_of, point_tree, rect_tree, colour_bytes, row_digits}
+use Rattle.dd_script.specs.Script.{keeps_limits, script_of}
 
 -- ---- drawing
 
@@ -44,15 +42,21 @@ op_tree (Scroll m) =
     object (member (codes "from") (point_tree m.source) (member (codes "scroll") (rect_tree m.dest) no_members))
 
 unfoldable pub draw_tree : draws.Draw → Data
-draw_tree (Present ops) = object (member (codes "present") (array_of op_tree ops) no_members)
+draw_tree (drawings.Present ops) = object (member (codes "present") (array_of op_tree ops) no_members)
+draw_tree (drawings.Mode index) = object (member (codes "mode") (count index) no_members)
+draw_tree (drawings.Switch secure) = object (member (codes "switch") (boolean secure) no_members)
+draw_tree drawings.Disconnect = object (member (codes "disconnect") (boolean true) no_members)
+draw_tree drawings.Reconnect = object (member (codes "reconnect") (boolean true) no_members)
 
 -- ---- steps
 
 abbrev pub name_of : ClientCall → List ℕ
 name_of Duplicate = codes "duplicate"
+name_of Close = codes "close"
 name_of (Acquire timeout) = codes "acquire"
 name_of Release = codes "release"
 name_of Surface = codes "surface"
+name_of Desc = codes "desc"
 
 unfoldable pub step_tree : Step → Data
 step_tree (Draw drawing) = draw_tree drawing
@@ -60,13 +64,6 @@ step_tree (Call client call) =
     object (member (codes "call") (string (name_of call)) (member (codes "client") (count client) no_members))
 
 -- ---- the output
-
-abbrev pub number_of : Rotation → ℕ
-number_of Unspecified = 0
-number_of Identity = 1
-number_of Rotate90 = 2
-number_of Rotate180 = 3
-number_of Rotate270 = 4
 
 unfoldable pub mode_tree : Mode → Data
 mode_tree m = array (item (count m.width) (item (count m.height) (item (count (number_of m.rotation)) no_items)))
@@ -111,14 +108,20 @@ is_operation (Cover r cs) = false
 is_operation (Scroll m) = is_point m.source && is_rectangle m.dest
 
 abbrev pub is_drawing : draws.Draw → Bool
-is_drawing (Present ops) = nat_le (length ops) MAX_OPS && list_all is_operation ops
+is_drawing (drawings.Present ops) = nat_le (length ops) MAX_OPS && list_all is_operation ops
+is_drawing (drawings.Mode index) = is_number index
+is_drawing (drawings.Switch secure) = true
+is_drawing drawings.Disconnect = true
+is_drawing drawings.Reconnect = true
 
 -- an acquire has no timeout
 abbrev pub is_call : ClientCall → Bool
 is_call Duplicate = true
+is_call Close = true
 is_call (Acquire timeout) = timeout == 0
 is_call Release = true
 is_call Surface = true
+is_call Desc = true
 
 abbrev pub is_step : Step → Bool
 is_step (Draw drawing) = is_drawing drawing
@@ -128,7 +131,7 @@ is_step (Call client call) = is_number client && is_call call
 unfoldable pub is_readable : Script → Bool
 is_readable s =
     are_modes s.spec.modes && is_number s.spec.capacity && list_all is_number s.spec.privileged
-    && list_all is_number s.clients && list_all is_step s.steps && keeps_limits s && has_one_duplicator s
+    && list_all is_number s.clients && list_all is_step s.steps && keeps_limits s
 
 -- a script's own tree is read as that script
 abbrev pub IsReadBack : Script → Type 0

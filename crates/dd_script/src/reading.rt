@@ -8,7 +8,7 @@ mod output;
 mod tests;
 mod tree;
 
-ghost use Rattle.std.specs.Prelude.{◌≡◌, ℕ, List, IfOk, IsTrue, Some};
+ghost use Rattle.std.specs.Prelude.{◌≡◌, ◌<◌, ℕ, List, length, IfOk, IsTrue, Some};
 ghost use Rattle.serde_json.specs.Data.{Data};
 ghost use Rattle.serde_json.specs.View.{view};
 ghost use Rattle.dd_script.specs.Reading.{IsJson, Gives, ReadsTree, Reads};
@@ -18,7 +18,7 @@ ghost use Rattle.dd_script.specs.Spelling.{is_readable, IsReadBack};
 
 use crate::fault::ScriptFault;
 use crate::reading::calls::steps_of;
-use crate::reading::limits::{has_one_duplicator, keeps_limits};
+use crate::reading::limits::keeps_limits;
 use crate::reading::output::{apps_of, modes_of};
 use crate::reading::tree::{has_keys, member, u32_of};
 use dd_log::Spec;
@@ -69,7 +69,7 @@ fn script_of(alloc: Global, tree: &Value) -> Result<Script, ScriptFault>
     ensures { Gives (λ s. s) result (script_of (view tree.now)) }
 {
     let script = parts_of(alloc, tree)?;
-    if keeps_limits(&script) && has_one_duplicator(&script) {
+    if keeps_limits(&script) {
         Ok(script)
     } else {
         Err(ScriptFault::NotScript)
@@ -79,11 +79,12 @@ fn script_of(alloc: Global, tree: &Value) -> Result<Script, ScriptFault>
 /// The script that the bytes are, as a JSON text.
 ///
 /// NotJson comes exactly where the bytes are no JSON text, NotScript exactly where its tree is no
-/// script.
-#[tactic(auto, using(crate::proofs::Runnable::script_runs))]
+/// script. A script has fewer steps than its text has bytes.
+#[tactic(auto, using(crate::proofs::Runnable::script_runs, crate::proofs::StepCount::few_steps))]
 pub fn read_steps(alloc: Global, bytes: &[u8]) -> Result<Script, ScriptFault>
     ensures reads { Reads result bytes.now }
     ensures whole { IfOk result (λ s. IsRunnable s) }
+    ensures count { IfOk result (λ s. length s.steps < length bytes.now) }
 {
     let tree = tree_of(alloc, bytes)?;
     script_of(alloc, &tree)

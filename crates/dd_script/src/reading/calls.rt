@@ -19,9 +19,11 @@ fn call_named(name: &str) -> Option<ClientCall>
 {
     match name {
         "duplicate" => Some(ClientCall::Duplicate),
+        "close" => Some(ClientCall::Close),
         "acquire" => Some(ClientCall::Acquire { timeout: 0 }),
         "release" => Some(ClientCall::Release),
         "surface" => Some(ClientCall::Surface),
+        "desc" => Some(ClientCall::Desc),
         _ => None,
     }
 }

@@ -7,10 +7,11 @@ ghost use Rattle.serde_json.specs.View.{view};
 ghost use Rattle.dd_ops.specs.declared.lists.TheConstants.{MAX_OPS};
 ghost use Rattle.dd_script.specs.Reading.{Gives};
 ghost use Rattle.dd_script.specs.Script.{each, point_of, rect_of, colour_of, colours_in, colours_from, colours_of};
-ghost use Rattle.dd_script.specs.Script.{fill_of, blit_of, scroll_of, operation_of, operations_of, draw_of};
+ghost use Rattle.dd_script.specs.Script.{fill_of, blit_of, scroll_of, operation_of, operations_of};
+ghost use Rattle.dd_script.specs.Script.{present_of, change_of, switch_of, has_true, session_of, draw_of};
 
 use crate::fault::ScriptFault;
-use crate::reading::tree::{has_items, has_keys, i32_of, list_of, member};
+use crate::reading::tree::{has_items, has_keys, i32_of, list_of, member, u32_of};
 use dd_geom::{Move, Point, Rect};
 use dd_log::Draw;
 use dd_ops::{Colours, MAX_OPS, Op, Ops};
@@ -181,6 +182,58 @@ fn operations_of(alloc: Global, tree: &Value) -> Result<Ops, ScriptFault>
 }
 
 /// `{"present":[operations]}`.
+#[tactic(auto, unfolding(crate::specs::Script::present_of))]
+fn present_of(alloc: Global, tree: &Value) -> Result<Draw, ScriptFault>
+    ensures { Gives (λ d. d) result (present_of (view tree.now)) }
+{
+    let ops = operations_of(alloc, member(tree, "present")?)?;
+    Ok(Draw::Present(ops))
+}
+
+/// `{"mode":index}`.
+#[tactic(auto, unfolding(crate::specs::Script::change_of))]
+fn change_of(tree: &Value) -> Option<Draw>
+    ensures { result ≡ change_of (view tree.now) }
+{
+    let index = u32_of(tree.get("mode")?)?;
+    Some(Draw::Mode { index })
+}
+
+/// `{"switch":secure}`.
+#[tactic(auto, unfolding(crate::specs::Script::switch_of))]
+fn switch_of(tree: &Value) -> Option<Draw>
+    ensures { result ≡ switch_of (view tree.now) }
+{
+    let secure = tree.get("switch")?.as_bool()?;
+    Some(Draw::Switch { secure })
+}
+
+/// Whether the key's value is true.
+#[tactic(auto, unfolding(crate::specs::Script::has_true))]
+fn has_true(tree: &Value, key: &str) -> bool
+    ensures { result ≡ has_true key.now (view tree.now) }
+{
+    match tree.get(key) {
+        Some(value) => value.as_bool().unwrap_or(false),
+        None => false,
+    }
+}
+
+/// `{"disconnect":true}` or `{"reconnect":true}`.
+#[tactic(auto, unfolding(crate::specs::Script::session_of))]
+fn session_of(tree: &Value) -> Option<Draw>
+    ensures { result ≡ session_of (view tree.now) }
+{
+    if has_true(tree, "disconnect") {
+        Some(Draw::Disconnect)
+    } else if has_true(tree, "reconnect") {
+        Some(Draw::Reconnect)
+    } else {
+        None
+    }
+}
+
+/// A drawing has one key, which tells its kind.
 #[tactic(auto, unfolding(crate::specs::Script::draw_of))]
 pub fn draw_of(alloc: Global, tree: &Value) -> Result<Draw, ScriptFault>
     ensures { Gives (λ d. d) result (draw_of (view tree.now)) }
@@ -188,6 +241,13 @@ pub fn draw_of(alloc: Global, tree: &Value) -> Result<Draw, ScriptFault>
     if !has_keys(tree, 1) {
         return Err(ScriptFault::NotScript);
     }
-    let ops = operations_of(alloc, member(tree, "present")?)?;
-    Ok(Draw::Present(ops))
+    if tree.get("present").is_some() {
+        present_of(alloc, tree)
+    } else if tree.get("mode").is_some() {
+        change_of(tree).ok_or(ScriptFault::NotScript)
+    } else if tree.get("switch").is_some() {
+        switch_of(tree).ok_or(ScriptFault::NotScript)
+    } else {
+        session_of(tree).ok_or(ScriptFault::NotScript)
+    }
 }

@@ -16,16 +16,19 @@ fn told(alloc: Global, text: &[u8]) -> Result<String, AllocError> {
 fn texts(rt: HostRuntime) -> Result<(), Fail> {
     let cases: [(&[u8], &str); 5] = [
         (
-            b"{\"modes\":[[4,3,1]],\"capacity\":100,\"privileged\":[],\"clients\":[1],\"steps\":[\
-              {\"client\":1,\"call\":\"duplicate\"},{\"present\":[\
+            b"{\"modes\":[[4,3,1],[3,4,0]],\"capacity\":100,\"privileged\":[9],\"clients\":[1,9],\
+              \"steps\":[{\"client\":1,\"call\":\"duplicate\"},{\"present\":[\
               {\"colour\":\"fF8001\",\"fill\":[1,0,4,2]},\
               {\"colours\":\"fF8001000102\",\"blit\":[1,0,3,1]},\
               {\"from\":[-3,7],\"scroll\":[2,-1,4,1]}]},\
               {\"client\":1,\"call\":\"acquire\"},{\"client\":1,\"call\":\"surface\"},\
-              {\"client\":1,\"call\":\"release\"}]}",
+              {\"client\":1,\"call\":\"release\"},{\"client\":2,\"call\":\"desc\"},\
+              {\"client\":1,\"call\":\"close\"},{\"mode\":7},{\"switch\":true},\
+              {\"disconnect\":true},{\"reconnect\":true}]}",
             "Script { spec: Spec { \
-             modes: Modes { items: [Mode { width: 4, height: 3, rotation: Identity }] }, \
-             capacity: 100, privileged: Apps { items: [] } }, clients: Apps { items: [1] }, \
+             modes: Modes { items: [Mode { width: 4, height: 3, rotation: Identity }, \
+             Mode { width: 3, height: 4, rotation: Unspecified }] }, \
+             capacity: 100, privileged: Apps { items: [9] } }, clients: Apps { items: [1, 9] }, \
              steps: Steps { items: [Call { client: 1, call: Duplicate }, \
              Draw(Present(Ops { items: [\
              Fill { rect: Rect { left: 1, top: 0, right: 4, bottom: 2 }, colour: 16744449 }, \
@@ -34,7 +37,10 @@ fn texts(rt: HostRuntime) -> Result<(), Fail> {
              Scroll { mv: Move { source: Point { x: -3, y: 7 }, \
              dest: Rect { left: 2, top: -1, right: 4, bottom: 1 } } }] })), \
              Call { client: 1, call: Acquire { timeout: 0 } }, \
-             Call { client: 1, call: Surface }, Call { client: 1, call: Release }] } }",
+             Call { client: 1, call: Surface }, Call { client: 1, call: Release }, \
+             Call { client: 2, call: Desc }, Call { client: 1, call: Close }, \
+             Draw(Mode { index: 7 }), Draw(Switch { secure: true }), \
+             Draw(Disconnect), Draw(Reconnect)] } }",
         ),
         (b"[]", "NotScript"),
         (b"", "NotJson"),

@@ -2,14 +2,17 @@
 
 ghost use Rattle.std.specs.Prelude.{◌≡◌, IfOk};
 ghost use Rattle.serde_json.specs.View.{view};
-ghost use Rattle.dd_script.specs.Answers.{answer_tree, IsNoSurface};
+ghost use Rattle.dd_script.specs.Answers.{number_of, desc_tree, answer_tree, IsNoSurface};
 ghost use Rattle.dd_script.specs.Texts.{line};
 
 use crate::text::Text;
 use crate::writing::frames::frame_tree;
-use crate::writing::refusals::{refused_call, refused_client, refused_drawing, refused_opening};
+use crate::writing::refusals::{
+    refused_call, refused_client, refused_closing, refused_drawing, refused_opening,
+};
 use crate::writing::surfaces::surface_text;
 use dd_log::Answer;
+use dd_modes::{Mode, Rotation};
 use serde_json::{Value, json};
 use std::alloc::{AllocError, Global};
 
@@ -45,12 +48,37 @@ fn answer_tree(alloc: Global, a: &Answer) -> Result<Value, AllocError>
         Answer::NotDrawn(refusal) => refused_drawing(*refusal).tree(alloc),
         Answer::Opened { entry, slot } => json!(in alloc; {"entry": *entry, "slot": *slot}),
         Answer::NotOpened(refusal) => refused_opening(*refusal).tree(alloc),
+        Answer::Closed { entry } => json!(in alloc; {"entry": *entry}),
+        Answer::NotClosed(refusal) => refused_closing(*refusal).tree(alloc),
         Answer::Frame { info, moves, dirt } => frame_tree(alloc, info, moves, dirt),
         Answer::Released => json!(in alloc; {"released": true}),
         Answer::Surface(_) => unreachable!(),
+        Answer::Desc(mode) => desc_tree(alloc, *mode),
         Answer::Refused { refusal, buffer } => {
             refused_call(*refusal, buffer.as_ref()).tree(alloc)
         }
         Answer::NoDuplicator => refused_client().tree(alloc),
+    }
+}
+
+/// The mode of a duplicator's opening.
+#[tactic(auto, unfolding(crate::specs::Answers::desc_tree))]
+fn desc_tree(alloc: Global, mode: Mode) -> Result<Value, AllocError>
+    ensures { IfOk result (λ v. view v ≡ desc_tree mode) }
+{
+    let rotation = number_of(mode.rotation);
+    json!(in alloc; {"height": mode.height, "rotation": rotation, "width": mode.width})
+}
+
+/// A rotation by the API's number.
+fn number_of(rotation: Rotation) -> u32
+    ensures { result ≡ number_of rotation }
+{
+    match rotation {
+        Rotation::Unspecified => 0,
+        Rotation::Identity => 1,
+        Rotation::Rotate90 => 2,
+        Rotation::Rotate180 => 3,
+        Rotation::Rotate270 => 4,
     }
 }

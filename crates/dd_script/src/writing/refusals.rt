@@ -4,13 +4,17 @@ ghost use Rattle.std.specs.Prelude.{◌≡◌, IfOk, OnOk, option_map};
 ghost use Rattle.serde_json.specs.Data.{string, number, unsigned, put as with_member};
 ghost use Rattle.serde_json.specs.View.{view, members_view};
 ghost use Rattle.hex.specs.Hex.{encode_lower};
-ghost use Rattle.dd_script.specs.Answers.{count, named, put_part, refusal_tree, refused_drawing, refused_opening, refused_call, refused_client};
+ghost use Rattle.dd_script.specs.Answers.{count, named, put_part, refusal_tree};
+ghost use Rattle.dd_script.specs.Answers.{refused_drawing, refused_opening, refused_closing, refused_call, refused_client};
 
 use dd_io::Bytes;
-use dd_log::{DupRefusal, LogRefusal, OpenRefusal};
+use dd_log::{CloseRefusal, DupRefusal, LogRefusal, OpenRefusal};
 use serde_json::{Map, Value};
 use std::alloc::{AllocError, Global};
 use std::marker::Model;
+
+/// DXGI_ERROR_ACCESS_LOST.
+const ACCESS_LOST: &str = "887a0026";
 
 /// DXGI_ERROR_INVALID_CALL.
 const INVALID_CALL: &str = "887a0001";
@@ -18,8 +22,14 @@ const INVALID_CALL: &str = "887a0001";
 /// DXGI_ERROR_WAIT_TIMEOUT.
 const WAIT_TIMEOUT: &str = "887a0027";
 
+/// E_ACCESSDENIED.
+const ACCESS_DENIED: &str = "80070005";
+
 /// DXGI_ERROR_NOT_CURRENTLY_AVAILABLE.
 const NOT_AVAILABLE: &str = "887a0022";
+
+/// DXGI_ERROR_SESSION_DISCONNECTED.
+const SESSION_DISCONNECTED: &str = "887a0028";
 
 /// E_INVALIDARG.
 const INVALID_ARGUMENT: &str = "80070057";
@@ -113,7 +123,9 @@ pub fn refused_drawing<'r>(refusal: LogRefusal) -> Refusal<'r>
     ensures { result ≡ refused_drawing refusal }
 {
     match refusal {
+        LogRefusal::Ended => Refusal::named("Ended"),
         LogRefusal::Full => Refusal::named("Full"),
+        LogRefusal::BadMode => Refusal::named("BadMode").with_code(INVALID_ARGUMENT),
         LogRefusal::BadRect { op } => {
             Refusal::named("BadRect")
                 .with_code(INVALID_ARGUMENT)
@@ -127,6 +139,10 @@ pub fn refused_opening<'r>(refusal: OpenRefusal) -> Refusal<'r>
     ensures { result ≡ refused_opening refusal }
 {
     match refusal {
+        OpenRefusal::SessionDisconnected => {
+            Refusal::named("SessionDisconnected").with_code(SESSION_DISCONNECTED)
+        }
+        OpenRefusal::AccessDenied => Refusal::named("AccessDenied").with_code(ACCESS_DENIED),
         OpenRefusal::AlreadyDuplicating => {
             Refusal::named("AlreadyDuplicating").with_code(INVALID_ARGUMENT)
         }
@@ -135,11 +151,23 @@ pub fn refused_opening<'r>(refusal: OpenRefusal) -> Refusal<'r>
     }
 }
 
+/// A refused closing.
+pub fn refused_closing<'r>(refusal: CloseRefusal) -> Refusal<'r>
+    ensures { result ≡ refused_closing refusal }
+{
+    match refusal {
+        CloseRefusal::NoDuplicator => Refusal::named("NoDuplicator"),
+        CloseRefusal::Ended => Refusal::named("Ended"),
+        CloseRefusal::Full => Refusal::named("Full"),
+    }
+}
+
 /// A refused call, with the whole buffer that it was given, if any.
 pub fn refused_call<'r>(refusal: DupRefusal, buffer: Option<&'r Bytes>) -> Refusal<'r>
     ensures { result ≡ refused_call refusal (option_map (λ b. b.now) buffer.entry) }
 {
     let refusal = match refusal {
+        DupRefusal::AccessLost => Refusal::named("AccessLost").with_code(ACCESS_LOST),
         DupRefusal::InvalidCall => Refusal::named("InvalidCall").with_code(INVALID_CALL),
         DupRefusal::WaitTimeout => Refusal::named("WaitTimeout").with_code(WAIT_TIMEOUT),
         DupRefusal::OutOfMemory => Refusal::named("OutOfMemory"),

@@ -3,7 +3,8 @@
 use crate::{Text, answer_text};
 use dd_geom::{Move, Moves, Point, Rect, Rects};
 use dd_io::Bytes;
-use dd_log::{Answer, DupRefusal, FrameInfo, LogRefusal, OpenRefusal, Pointer, Rows};
+use dd_log::{Answer, CloseRefusal, DupRefusal, FrameInfo, LogRefusal, OpenRefusal, Pointer, Rows};
+use dd_modes::{Mode, Rotation};
 use dd_ops::Colours;
 use std::alloc::{AllocError, Global};
 use std::test::Fail;
@@ -81,6 +82,19 @@ fn lines(rt: HostRuntime) -> Result<(), Fail> {
         (
             Answer::NotOpened(OpenRefusal::NotAvailable),
             r#"{"code":"887a0022","refused":"NotAvailable"}"#,
+        ),
+        (Answer::Closed { entry: 3 }, r#"{"entry":3}"#),
+        (
+            Answer::NotClosed(CloseRefusal::Ended),
+            r#"{"refused":"Ended"}"#,
+        ),
+        (
+            Answer::Desc(Mode {
+                width: 4,
+                height: 3,
+                rotation: Rotation::Rotate90,
+            }),
+            r#"{"height":3,"rotation":2,"width":4}"#,
         ),
         (Answer::Released, r#"{"released":true}"#),
         (Answer::Surface(None), r#"{"surface":null}"#),
