@@ -27,10 +27,13 @@ fn in_short(answer: &Answer) -> Told {
             slot: *slot,
         },
         Answer::NotOpened(cause) => Told::NotOpened(*cause),
+        Answer::Closed { entry } => Told::Closed(*entry),
+        Answer::NotClosed(cause) => Told::NotClosed(*cause),
         Answer::Frame { .. } => Told::Frame,
         Answer::Released => Told::Released,
         Answer::Surface(Some(_)) => Told::Surface,
         Answer::Surface(None) => Told::NoSurface,
+        Answer::Desc(mode) => Told::Desc(*mode),
         Answer::Refused { refusal, .. } => Told::Refused(*refusal),
         Answer::NoDuplicator => Told::NoDuplicator,
     }
@@ -71,6 +74,10 @@ fn step_of(alloc: Global, act: Act) -> Result<Step, Fail>
     match act {
         Act::Present(list) => Ok(Step::Draw(Draw::Present(drawings(alloc, list)?))),
         Act::Teeth(from, to) => Ok(Step::Draw(Draw::Present(teeth(alloc, from, to)?))),
+        Act::Mode(index) => Ok(Step::Draw(Draw::Mode { index })),
+        Act::Switch(secure) => Ok(Step::Draw(Draw::Switch { secure })),
+        Act::Disconnect => Ok(Step::Draw(Draw::Disconnect)),
+        Act::Reconnect => Ok(Step::Draw(Draw::Reconnect)),
         Act::First(call) => Ok(Step::Call { client: 1, call }),
         Act::Second(call) => Ok(Step::Call { client: 2, call }),
     }
@@ -148,7 +155,7 @@ fn is_answered(
     Ok(())
 }
 
-/// A station with two clients.
+/// A station with two clients; application 9 is privileged.
 fn station(rt: &impl Abort, alloc: Global, case: &Case) -> Result<Station, Fail>
     ensures clients { IfOk result (λ s. length s.clients ≡ 2) }
     ensures steps { IfOk result (λ s. s.steps ≡ 0) }
@@ -158,7 +165,7 @@ fn station(rt: &impl Abort, alloc: Global, case: &Case) -> Result<Station, Fail>
     let spec = Spec {
         modes: Modes::from_vec(modes).ok_or("one mode")?,
         capacity: case.capacity,
-        privileged: Apps::from_vec(Vec::new(alloc)),
+        privileged: Apps::from_vec([9].to_vec(alloc)?),
     };
     Ok(Station::start(alloc, spec, &case.apps)?)
 }

@@ -2,7 +2,7 @@
 
 use crate::ClientCall;
 use dd_geom::{Move, Point, Rect};
-use dd_log::{DupRefusal, LogRefusal, OpenRefusal};
+use dd_log::{CloseRefusal, DupRefusal, LogRefusal, OpenRefusal};
 use dd_modes::{Mode, Rotation};
 
 /// An operation: a red fill, a cover of one red point, or a scroll.
@@ -20,6 +20,11 @@ pub enum Act {
     Present(&'static [Drawing]),
     /// A present of fills of the teeth from the first number up to, not including, the second.
     Teeth(u8, u8),
+    /// A change to the mode of this number.
+    Mode(u32),
+    Switch(bool),
+    Disconnect,
+    Reconnect,
     /// A call of the first client.
     First(ClientCall),
     /// A call of the second client.
@@ -33,10 +38,13 @@ pub enum Told {
     NotDrawn(LogRefusal),
     Opened { entry: u64, slot: u32 },
     NotOpened(OpenRefusal),
+    Closed(u64),
+    NotClosed(CloseRefusal),
     Frame,
     Released,
     Surface,
     NoSurface,
+    Desc(Mode),
     Refused(DupRefusal),
     NoDuplicator,
 }
@@ -251,6 +259,13 @@ const ACQUIRE: ClientCall = ClientCall::Acquire { timeout: 0 };
 const RELEASE: ClientCall = ClientCall::Release;
 
 const SURFACE: ClientCall = ClientCall::Surface;
+
+const CLOSE: ClientCall = ClientCall::Close;
+
+const DESC: ClientCall = ClientCall::Desc;
+
+/// The duplicator is lost.
+const LOST: Want = Want::Told(Told::Refused(DupRefusal::AccessLost));
 
 /// The first client opens a duplicator.
 const OPEN: (Act, Want) = (
@@ -822,6 +837,110 @@ pub const CASES: &[Case] = &[
             ),
         ],
         entries: 4,
+    },
+    Case {
+        name: "a lost duplicator lends its surface until it is told so, and keeps its slot",
+        mode: SMALL,
+        capacity: 9,
+        apps: [1, 2],
+        steps: &[
+            OPEN,
+            (
+                Act::Present(&[Drawing::Fill(INNER)]),
+                Want::Told(Told::Entered(2)),
+            ),
+            (Act::First(ACQUIRE), Want::Told(Told::Frame)),
+            (Act::Mode(0), Want::Told(Told::Entered(3))),
+            (
+                Act::Mode(1),
+                Want::Told(Told::NotDrawn(LogRefusal::BadMode)),
+            ),
+            (
+                Act::First(SURFACE),
+                Want::Rows(&[BLACK, &[0, RED, RED, 0], BLACK]),
+            ),
+            (Act::First(RELEASE), LOST),
+            (Act::First(ACQUIRE), LOST),
+            (Act::First(SURFACE), Want::Told(Told::NoSurface)),
+            (Act::First(DESC), Want::Told(Told::Desc(SMALL))),
+            (
+                Act::First(DUPLICATE),
+                Want::Told(Told::NotOpened(OpenRefusal::AlreadyDuplicating)),
+            ),
+            (
+                Act::Second(DUPLICATE),
+                Want::Told(Told::Opened { entry: 4, slot: 1 }),
+            ),
+            (Act::First(CLOSE), Want::Told(Told::Closed(5))),
+            (
+                Act::First(DUPLICATE),
+                Want::Told(Told::Opened { entry: 6, slot: 0 }),
+            ),
+            (
+                Act::First(ACQUIRE),
+                Want::Told(Told::Refused(DupRefusal::WaitTimeout)),
+            ),
+        ],
+        entries: 6,
+    },
+    Case {
+        name: "a secure desktop is for the privileged, and a disconnected session for nobody",
+        mode: SMALL,
+        capacity: 9,
+        apps: [1, 9],
+        steps: &[
+            (Act::Switch(true), Want::Told(Told::Entered(1))),
+            (
+                Act::First(DUPLICATE),
+                Want::Told(Told::NotOpened(OpenRefusal::AccessDenied)),
+            ),
+            (
+                Act::Second(DUPLICATE),
+                Want::Told(Told::Opened { entry: 2, slot: 0 }),
+            ),
+            (Act::Disconnect, Want::Told(Told::Entered(3))),
+            (
+                Act::First(DUPLICATE),
+                Want::Told(Told::NotOpened(OpenRefusal::SessionDisconnected)),
+            ),
+            (Act::Reconnect, Want::Told(Told::Entered(4))),
+            (Act::Second(ACQUIRE), LOST),
+            (Act::Switch(false), Want::Told(Told::Entered(5))),
+            (
+                Act::First(DUPLICATE),
+                Want::Told(Told::Opened { entry: 6, slot: 1 }),
+            ),
+        ],
+        entries: 6,
+    },
+    Case {
+        name: "a client closes its own duplicator alone, where the list has room",
+        mode: SMALL,
+        capacity: 4,
+        apps: [1, 1],
+        steps: &[
+            OPEN,
+            (
+                Act::Second(CLOSE),
+                Want::Told(Told::NotClosed(CloseRefusal::NoDuplicator)),
+            ),
+            (Act::First(CLOSE), Want::Told(Told::Closed(2))),
+            (Act::First(DESC), Want::Told(Told::NoDuplicator)),
+            (
+                Act::Second(DUPLICATE),
+                Want::Told(Told::Opened { entry: 3, slot: 0 }),
+            ),
+            (
+                Act::Second(CLOSE),
+                Want::Told(Told::NotClosed(CloseRefusal::Full)),
+            ),
+            (Act::Second(DESC), Want::Told(Told::Desc(SMALL))),
+            (
+                Act::First(CLOSE),
+                Want::Told(Told::NotClosed(CloseRefusal::NoDuplicator)),
+            ),
+        ],
+        entries: 3,
     },
 ];
 
