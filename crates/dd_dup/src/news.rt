@@ -1,4 +1,4 @@
-//! What is new: the entries from a mark on, walked once.
+//! What is new: what the entries from a mark on tell.
 
 ghost use Rattle.std.specs.Prelude.{◌≡◌, ◌+◌, ◌-◌, ◌^◌, ◌≤◌, ◌<◌, IsTrue, IsSome, IfOk, OnErr, length};
 ghost use Rattle.dd_geom.specs.Grid.{Grid};
