@@ -1,6 +1,7 @@
 -- The rows of a set as bands of equal rows.
-use Rattle.std.specs.Prelude.{◌≡◌, ℕ, ◌-◌, ◌≤◌, ◌<◌, max, List, [], ◌∷◌, length, slice_index_or, Bool, false, nat_lt, if◌then◌else◌, All}
+use Rattle.std.specs.Prelude.{◌≡◌, ℕ, ◌-◌, ◌≤◌, ◌<◌, max, List, [], ◌∷◌, length, slice_index_or, Bool, true, false, nat_lt, if◌then◌else◌, All}
 use Rattle.std.specs.List.{AllWithin, slice_range}
+use Rattle.dd_geom.specs.declared.rect.Sides.{Sides}
 use Rattle.dd_region.specs.declared.run.Run.{Run}
 use Rattle.dd_region.specs.declared.rows.Band.{Band}
 use Rattle.dd_region.specs.declared.rows.Rows.{Rows}
@@ -65,3 +66,8 @@ AreWithin s w = (x y : ℕ) → y < depth s → w ≤ x → has_point s x y ≡ 
 -- the points of the rows that are there are those of a function
 abbrev pub HavePoints : Rows → (ℕ → ℕ → Bool) → Type 0
 HavePoints s f = (x y : ℕ) → y < depth s → has_point s x y ≡ f x y
+
+-- each point between the sides is there
+abbrev pub HasAll : Rows → Sides → Type 0
+HasAll s sides =
+    (x y : ℕ) → sides.left ≤ x → x < sides.right → sides.top ≤ y → y < sides.bottom → has_point s x y ≡ true

@@ -114,9 +114,14 @@ impl Area for Bands {
         })
     }
 
+    /// A rectangle that is there already takes no memory.
     fn add(&mut self, r: Rect) -> Result<(), AllocError> {
+        let sides = sides_of(r);
+        if self.rows.has_all(sides) {
+            return Ok(());
+        }
         self.write(Patch {
-            sides: sides_of(r),
+            sides,
             inside: Inside::Whole,
         })
     }

@@ -1,6 +1,7 @@
 //! The rows of a set, as bands of equal rows.
 
-use crate::run::{Run, same_runs};
+use crate::run::{Run, has_columns, same_runs};
+use dd_geom::Sides;
 use std::alloc::{AllocError, Global};
 
 /// Equal rows: those from the end of the band above to `bottom - 1`. Their runs are those from
@@ -32,7 +33,7 @@ impl Rows {
     ghost use Rattle.std.specs.Bool.{OnTrue};
     ghost use Rattle.dd_region.specs.declared.rows.Band.{Band};
     ghost use Rattle.dd_region.specs.Runs.{IsRow};
-    ghost use Rattle.dd_region.specs.Rows.{row_at, depth, last_runs, AreRows, AreBlank, ArePassed, HasBandMore};
+    ghost use Rattle.dd_region.specs.Rows.{row_at, depth, last_runs, AreRows, HasAll, AreBlank, ArePassed, HasBandMore};
 
     /// No rows.
     pub fn new(alloc: Global) -> Rows
@@ -114,6 +115,25 @@ impl Rows {
         while y < height {
             let row = self.at(y, band);
             if !row.runs.is_empty() {
+                return false;
+            }
+            band = row.band;
+            y = row.bottom;
+        }
+        true
+    }
+
+    /// Whether each row between the sides has one run with all columns between them.
+    pub fn has_all(&self, sides: Sides) -> bool
+        requires rows { AreRows self.now }
+        requires deep { sides.bottom ≤ depth self.now }
+        ensures { OnTrue result (HasAll self.now sides) }
+    {
+        let mut y = sides.top;
+        let mut band = 0;
+        while y < sides.bottom {
+            let row = self.at(y, band);
+            if !has_columns(row.runs, sides.left, sides.right) {
                 return false;
             }
             band = row.band;

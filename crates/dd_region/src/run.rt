@@ -1,6 +1,7 @@
 //! Runs of columns, and the rows that they make.
 
-ghost use Rattle.std.specs.Prelude.{◌≡◌, ℕ, ◌<◌, ◌≤◌, ◌+◌, ◌-◌, ◌^◌, ◌||◌, ◌↔◌, IsTrue, OnOk};
+ghost use Rattle.std.specs.Prelude.{◌≡◌, ℕ, ◌<◌, ◌≤◌, ◌+◌, ◌-◌, ◌^◌, ◌||◌, ◌↔◌, true, IsTrue, OnOk};
+ghost use Rattle.std.specs.Bool.{OnTrue};
 ghost use Rattle.dd_region.specs.Runs.{in_run, in_runs, IsRow, BeginBy, in_window, landing};
 
 use std::alloc::AllocError;
@@ -39,6 +40,14 @@ pub fn has_column(runs: &[Run], x: usize) -> bool
     ensures { result ≡ in_runs runs.now x }
 {
     runs.iter().any(|run| run_has(*run, x))
+}
+
+/// Whether one of the runs has all columns from `left` to `right - 1`.
+pub fn has_columns(runs: &[Run], left: usize, right: usize) -> bool
+    ensures { OnTrue result ((x : ℕ) → left ≤ x → x < right → in_runs runs.now x ≡ true) }
+{
+    runs.iter()
+        .any(|run| run.left <= left && right <= run.right)
 }
 
 /// Adds a run at the right end of a row: one that begins no further left than any run of it. Where
