@@ -24,7 +24,8 @@ use Rattle.dd_station.specs.declared.steps.Step.TheVariants.{Draw, Call}
 use Rattle.dd_station.specs.declared.steps.ClientCall.TheVariants.{Duplicate, Close, Acquire, Release}
 use Rattle.dd_station.specs.declared.steps.ClientCall.TheVariants as calls
 use Rattle.dd_station.specs.declared.steps.TheConstants.{MAX_CLIENTS}
-use Rattle.dd_station.specs.Run.{next, run}
+use Rattle.dd_station.specs.Run.{start, next, run}
+use Rattle.dd_station.specs.Independence.{left_steps}
 
 most_clients : MAX_CLIENTS ≡ 16
 most_clients = refl
@@ -107,3 +108,10 @@ one_application : Gives (1 ∷ 1 ∷ [])
     ∷ NoDuplicator ∷ NotDrawn BadMode ∷ [])
 unfolding next run picture presents state_of first_desk desk_after desk_of run_end same_rows canonical_list tiles least_power_from power dirtied dirt is_coalesced moves dirt_of news_of
 one_application = refl
+
+-- what another client does that enters nothing is left out: a refused opening, an acquire and a call without a duplicator
+left_out : left_steps 1 (λ n. true) (start (record { modes = small ∷ []; capacity = 100; privileged = [] }) (1 ∷ 1 ∷ []))
+    (Call 2 calls.Desc ∷ Call 1 Duplicate ∷ Call 2 Duplicate ∷ Call 1 Close ∷ Call 2 Duplicate ∷ acquire 2 ∷ acquire 1 ∷ [])
+    ≡ Call 1 Duplicate ∷ Call 1 Close ∷ Call 2 Duplicate ∷ acquire 1 ∷ []
+unfolding next presents first_desk desk_after desk_of
+left_out = refl

@@ -1,3 +1,5 @@
 mod Examples
 pub mod Kept
 pub mod Stepped
+pub mod Unnumbered
+pub mod Independence

@@ -1,3 +1,4 @@
 pub mod Run
 pub mod Station
 pub mod Opening
+pub mod Independence

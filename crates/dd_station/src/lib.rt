@@ -3,6 +3,7 @@
 
 mod calls;
 mod closing;
+mod laws;
 mod opening;
 mod station;
 mod steps;
@@ -10,5 +11,6 @@ mod steps;
 mod tests;
 
 pub use dd_log::Answer;
+pub use laws::clients_are_independent;
 pub use station::Station;
 pub use steps::{ClientCall, MAX_CLIENTS, Script, Step, Steps};
