@@ -1,6 +1,6 @@
 -- The desk after one entry more, part by part, and what its parts tell of the entries.
-use Rattle.std.proofs.Common.{◌≡◌, ℕ, ◌+◌, ◌<◌, ◌||◌, List, [], ◌∷◌, ◌++◌, length, drop, get_or, set, nat_lt, eqb, sym, ap, ◌∙◌, refl, arith, if◌then◌else◌, ◌==◌}
-use Rattle.std.specs.Prelude.{slice_index_or}
+use Rattle.std.proofs.Common.{◌≡◌, ℕ, ◌+◌, ◌-◌, ◌<◌, ◌||◌, true, false, List, [], ◌∷◌, ◌++◌, length, drop, get_or, set, nat_lt, eqb, sym, ap, ◌∙◌, refl, arith, if◌then◌else◌, ◌==◌}
+use Rattle.std.specs.Prelude.{slice_index_or, slice_get, None}
 use Rattle.std.proofs.lemmas.Bool.{cases_eq, eq-eqb, ne_eqb, cond-true, cond-false}
 use Rattle.std.proofs.lemmas.List.{get_or-set_same, get_or-set_other, get_or-replicate, length-set, length-replicate, length_push}
 use Rattle.std.proofs.lemmas.List.Sums.{fold_push}
@@ -9,10 +9,11 @@ use Rattle.dd_modes.specs.declared.modes.Mode.{Mode}
 use Rattle.dd_log.specs.declared.desk.Desk.{Desk}
 use Rattle.dd_log.specs.declared.events.Entry.{Entry}
 use Rattle.dd_log.specs.declared.events.TheConstants.{MAX_ACTORS}
-use Rattle.dd_log.specs.Events.{begins_picture, cuts_off, is_present, is_end, any_cuts_off, any_presents, any_ends}
+use Rattle.dd_log.specs.Events.{begins_picture, cuts_off, is_present, is_pointing, has_shape, is_end, any_cuts_off, any_presents, any_points, any_ends, shape_at, last_present, last_pointed, last_shape}
 use Rattle.dd_log.specs.Desk.{first_desk, desk_after, desk_of, mode_after, secure_after, connected_after, slots_after, place_after}
 use Rattle.dd_log.specs.History.{last_step}
 use Rattle.dd_log.proofs.Snoc.{by_snoc, any_push, Marks, Tells, tells}
+use Rattle.dd_log.proofs.Lasts.{number_tells, shape_tells, no_shape}
 
 -- one entry more
 pub desk-push : (ms : List Mode) (es : List Entry) (e : Entry)
@@ -82,6 +83,18 @@ presented-push : (ms : List Mode) (es : List Entry) (e : Entry)
 unfolding desk_after
 presented-push ms es e = ap (λ (d : Desk). d.presented) (desk-push ms es e)
 
+pointed-push : (ms : List Mode) (es : List Entry) (e : Entry)
+    → (desk_of ms (es ++ e ∷ [])).pointed
+    ≡ place_after (is_pointing e.event) (desk_of ms es).len (desk_of ms es).pointed
+unfolding desk_after
+pointed-push ms es e = ap (λ (d : Desk). d.pointed) (desk-push ms es e)
+
+shaped-push : (ms : List Mode) (es : List Entry) (e : Entry)
+    → (desk_of ms (es ++ e ∷ [])).shaped
+    ≡ place_after (has_shape e.event) (desk_of ms es).len (desk_of ms es).shaped
+unfolding desk_after
+shaped-push ms es e = ap (λ (d : Desk). d.shaped) (desk-push ms es e)
+
 pub start_marks : (ms : List Mode) → Marks (λ (e : Entry). begins_picture e.event) (λ es. (desk_of ms es).picture_start)
 unfolding desk_of first_desk
 start_marks ms =
@@ -109,6 +122,24 @@ presented_marks ms =
           ∙ ap (λ n. place_after (is_present e.event) n (desk_of ms es).presented) (len_tells ms es);
     }
 
+pointed_marks : (ms : List Mode) → Marks (λ (e : Entry). is_pointing e.event) (λ es. (desk_of ms es).pointed)
+unfolding desk_of first_desk
+pointed_marks ms =
+    record {
+      none = refl;
+      more = λ es e. pointed-push ms es e
+          ∙ ap (λ n. place_after (is_pointing e.event) n (desk_of ms es).pointed) (len_tells ms es);
+    }
+
+pub shaped_marks : (ms : List Mode) → Marks (λ (e : Entry). has_shape e.event) (λ es. (desk_of ms es).shaped)
+unfolding desk_of first_desk
+shaped_marks ms =
+    record {
+      none = refl;
+      more = λ es e. shaped-push ms es e
+          ∙ ap (λ n. place_after (has_shape e.event) n (desk_of ms es).shaped) (len_tells ms es);
+    }
+
 pub start_tells : (ms : List Mode) (es : List Entry)
     → Tells (λ (e : Entry). begins_picture e.event) (λ xs. (desk_of ms xs).picture_start) es
 start_tells ms es = tells _ _ (start_marks ms) es
@@ -120,6 +151,31 @@ cut_off_tells ms es place = (tells _ _ (cut_off_marks ms) es).since place
 pub presented_tells : (ms : List Mode) (es : List Entry) (place : ℕ)
     → nat_lt place (desk_of ms es).presented ≡ any_presents (drop place es)
 presented_tells ms es place = (tells _ _ (presented_marks ms) es).since place
+
+pub pointed_tells : (ms : List Mode) (es : List Entry) (place : ℕ)
+    → nat_lt place (desk_of ms es).pointed ≡ any_points (drop place es)
+pointed_tells ms es place = (tells _ _ (pointed_marks ms) es).since place
+
+-- the last present, and the last entry that sets the pointer or its shape
+pub last_present_tells : (ms : List Mode) (es : List Entry) (place : ℕ)
+    → (if nat_lt place (desk_of ms es).presented then (desk_of ms es).presented else 0)
+    ≡ last_present place (drop place es)
+last_present_tells ms es place = number_tells is_present _ (presented_marks ms) es place
+
+pub last_pointed_tells : (ms : List Mode) (es : List Entry) (place : ℕ)
+    → (if nat_lt place (desk_of ms es).pointed then (desk_of ms es).pointed else 0)
+    ≡ last_pointed place (drop place es)
+last_pointed_tells ms es place = number_tells is_pointing _ (pointed_marks ms) es place
+
+-- the last shape
+pub last_shape_tells : (ms : List Mode) (es : List Entry) (place : ℕ) → nat_lt place (desk_of ms es).shaped ≡ true
+    → last_shape (drop place es) ≡ shape_at (slice_get es ((desk_of ms es).shaped - 1))
+last_shape_tells ms es place t = shape_tells _ (shaped_marks ms) es place t
+
+pub no_shape_tells : (ms : List Mode) (es : List Entry) (place : ℕ) → nat_lt place (desk_of ms es).shaped ≡ false
+    → last_shape (drop place es) ≡ None
+no_shape_tells ms es place f =
+    no_shape (drop place es) (sym ((tells _ _ (shaped_marks ms) es).since place) ∙ f)
 
 -- whether the list has ended
 pub ended_tells : (ms : List Mode) (es : List Entry) → (desk_of ms es).ended ≡ any_ends es

@@ -281,6 +281,8 @@ ops_fit w h ops n =
 draw_fits : (ms : List Mode) (mode : Mode) (d : Draw) → bad_draw ms mode d ≡ None
     → present_fits mode.width mode.height (operations_of d) ≡ true
 draw_fits ms mode (Present ops) n = ops_fit mode.width mode.height ops n
+draw_fits ms mode (drawings.Pointer position visible) n = refl
+draw_fits ms mode (drawings.Shape shape) n = refl
 draw_fits ms mode (drawings.Mode index) n = refl
 draw_fits ms mode (Switch secure) n = refl
 draw_fits ms mode Disconnect n = refl

@@ -1,5 +1,6 @@
 pub mod Desks
 pub mod Examples
+pub mod Lasts
 pub mod Legal
 pub mod Pictures
 pub mod Shown

@@ -57,6 +57,8 @@ picture-push spec es e =
 -- an event that begins no picture keeps the mode
 mode_kept_by : (ms : List Mode) (old : Mode) (d : Draw) → draws_anew d ≡ false → mode_drawn ms old d ≡ old
 mode_kept_by ms old (Present ops) n = refl
+mode_kept_by ms old (drawings.Pointer position visible) n = refl
+mode_kept_by ms old (drawings.Shape shape) n = refl
 mode_kept_by ms old (drawings.Mode index) n = cc
 mode_kept_by ms old (Switch secure) n = refl
 mode_kept_by ms old Disconnect n = refl
@@ -71,6 +73,8 @@ mode_kept ms old End n = refl
 -- what begins a picture loses duplicators
 anew_loses : (d : Draw) → loses d ≡ false → draws_anew d ≡ false
 anew_loses (Present ops) n = refl
+anew_loses (drawings.Pointer position visible) n = refl
+anew_loses (drawings.Shape shape) n = refl
 anew_loses (drawings.Mode index) n = n
 anew_loses (Switch secure) n = n
 anew_loses Disconnect n = refl

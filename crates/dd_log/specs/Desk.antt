@@ -1,8 +1,9 @@
 -- The desk beside its picture: what the entries of a list make of it.
-use Rattle.std.specs.Prelude.{ℕ, ◌+◌, Bool, true, false, ◌&&◌, ◌||◌, not, ◌==◌, if◌then◌else◌, List, fold, replicate, slice_get, slice_set, Option, Some, None, unwrap_or}
+use Rattle.std.specs.Prelude.{ℕ, ◌+◌, pos, Bool, true, false, ◌&&◌, ◌||◌, not, ◌==◌, if◌then◌else◌, List, fold, replicate, slice_get, slice_set, Option, Some, None, unwrap_or}
 use Rattle.std.specs.List.{list_any}
 use Rattle.dd_modes.specs.declared.modes.Mode.{Mode}
 use Rattle.dd_modes.specs.Modes.{first_mode}
+use Rattle.dd_log.specs.declared.answers.Pointer.{Pointer}
 use Rattle.dd_log.specs.declared.desk.Desk.{Desk}
 use Rattle.dd_log.specs.declared.desk.TheConstants.{MAX_DUPLICATORS}
 use Rattle.dd_log.specs.declared.events.TheConstants.{MAX_ACTORS}
@@ -13,7 +14,11 @@ use Rattle.dd_log.specs.declared.events.Event.TheVariants as events
 use Rattle.dd_log.specs.declared.events.Draw.{Draw}
 use Rattle.dd_log.specs.declared.events.Draw.TheVariants.{Present, Switch, Disconnect, Reconnect}
 use Rattle.dd_log.specs.declared.events.Draw.TheVariants as drawings
-use Rattle.dd_log.specs.Events.{begins_picture, cuts_off, is_present, is_end}
+use Rattle.dd_log.specs.Events.{pointer_in, begins_picture, cuts_off, is_present, has_shape, is_pointing, is_end}
+
+-- the pointer that nothing has set: not visible, at the surface's top left corner
+abbrev pub unset : Pointer
+unset = record { position = record { x = pos 0; y = pos 0 }; visible = false }
 
 -- of an empty list, in the first of some modes
 unfoldable pub first_desk : List Mode → Desk
@@ -27,6 +32,9 @@ first_desk modes =
       picture_start = 0;
       cut_off = 0;
       presented = 0;
+      pointed = 0;
+      shaped = 0;
+      pointer = unset;
       slots = replicate MAX_DUPLICATORS None;
       steps = replicate MAX_ACTORS 0;
     }
@@ -34,6 +42,8 @@ first_desk modes =
 -- the mode, one of some modes, after a drawing
 abbrev pub mode_drawn : List Mode → Mode → Draw → Mode
 mode_drawn modes old (Present ops) = old
+mode_drawn modes old (drawings.Pointer position visible) = old
+mode_drawn modes old (drawings.Shape shape) = old
 mode_drawn modes old (drawings.Mode index) = unwrap_or (slice_get modes index) old
 mode_drawn modes old (Switch secure) = old
 mode_drawn modes old Disconnect = old
@@ -49,6 +59,8 @@ mode_after modes old End = old
 -- whether the desktop is secure, after a drawing
 abbrev pub secure_drawn : Bool → Draw → Bool
 secure_drawn old (Present ops) = old
+secure_drawn old (drawings.Pointer position visible) = old
+secure_drawn old (drawings.Shape shape) = old
 secure_drawn old (drawings.Mode index) = old
 secure_drawn old (Switch secure) = secure
 secure_drawn old Disconnect = old
@@ -63,6 +75,8 @@ secure_after old End = old
 -- whether the session is connected, after a drawing
 abbrev pub connected_drawn : Bool → Draw → Bool
 connected_drawn old (Present ops) = old
+connected_drawn old (drawings.Pointer position visible) = old
+connected_drawn old (drawings.Shape shape) = old
 connected_drawn old (drawings.Mode index) = old
 connected_drawn old (Switch secure) = old
 connected_drawn old Disconnect = false
@@ -73,6 +87,10 @@ connected_after old (events.Draw drawing) = connected_drawn old drawing
 connected_after old (Opened slot app) = old
 connected_after old (Closed slot) = old
 connected_after old End = old
+
+-- the pointer after an event
+abbrev pub pointer_after : Pointer → Event → Pointer
+pointer_after old e = unwrap_or (pointer_in e) old
 
 -- an opening takes its slot for its application, and a closing frees it
 abbrev pub slots_after : List (Option ℕ) → Event → List (Option ℕ)
@@ -97,6 +115,9 @@ desk_after modes d e =
       picture_start = place_after (begins_picture e.event) d.len d.picture_start;
       cut_off = place_after (cuts_off e.event) d.len d.cut_off;
       presented = place_after (is_present e.event) d.len d.presented;
+      pointed = place_after (is_pointing e.event) d.len d.pointed;
+      shaped = place_after (has_shape e.event) d.len d.shaped;
+      pointer = pointer_after d.pointer e.event;
       slots = slots_after d.slots e.event;
       steps = slice_set d.steps e.actor e.step;
     }

@@ -17,7 +17,7 @@ use Rattle.dd_log.specs.declared.events.TheConstants.{MAX_ACTORS}
 use Rattle.dd_log.specs.declared.answers.LogRefusal.{LogRefusal}
 use Rattle.dd_log.specs.declared.answers.LogRefusal.TheVariants.{Ended, Full, BadMode, BadRect}
 use Rattle.dd_log.specs.Desk.{desk_of, finds_slot}
-pub use Rattle.dd_log.specs.Events.{present_of, is_present, begins_picture, cuts_off, is_opening, is_end, any_begins, any_cuts_off, any_presents, any_ends}
+pub use Rattle.dd_log.specs.Events.{present_of, pointer_in, shape_in, is_present, is_pointing, begins_picture, cuts_off, is_opening, is_end, any_begins, any_cuts_off, any_presents, any_points, any_ends, last_present, last_pointed, last_shape}
 
 pub record History : Type 0 where
   pub spec : Spec
@@ -71,6 +71,8 @@ bad_rect w h ops = option_map BadRect (first_unfit w h ops)
 -- the cause of a drawing by itself, in a mode that is one of some modes
 abbrev pub bad_draw : List Mode → Mode → Draw → Option LogRefusal
 bad_draw modes mode (Present ops) = bad_rect mode.width mode.height ops
+bad_draw modes mode (drawings.Pointer position visible) = None
+bad_draw modes mode (drawings.Shape shape) = None
 bad_draw modes mode (drawings.Mode index) = if nat_lt index (length modes) then None else Some BadMode
 bad_draw modes mode (Switch secure) = None
 bad_draw modes mode Disconnect = None

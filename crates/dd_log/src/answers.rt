@@ -7,6 +7,7 @@ use crate::lists::Rows;
 use dd_geom::{Moves, Point, Rects};
 use dd_io::Bytes;
 use dd_modes::Mode;
+use dd_pointer::ShapeInfo;
 use std::alloc::AllocError;
 use thiserror::Error;
 
@@ -92,6 +93,9 @@ pub enum DupRefusal {
     /// Nothing is new.
     #[error("nothing is new")]
     WaitTimeout,
+    /// The buffer is shorter than the bytes that this part of the frame has.
+    #[error("the buffer has to have {required} bytes")]
+    MoreData { required: u32 },
     #[error("out of memory")]
     OutOfMemory,
 }
@@ -133,6 +137,19 @@ pub enum Answer {
     Surface(Option<Rows>),
     /// The mode in which the duplicator was opened.
     Desc(Mode),
+    /// The whole buffer that was given for the frame's moves or its dirty rectangles, and how many
+    /// of its bytes, from the front, are theirs.
+    Buffer {
+        size: u32,
+        bytes: Bytes,
+    },
+    /// The whole buffer that was given for the frame's new shape, how many of its bytes, from the
+    /// front, are the shape's, and what is told of it; none where there is no new shape.
+    ShapeBuffer {
+        size: u32,
+        bytes: Bytes,
+        shape: Option<ShapeInfo>,
+    },
     Refused {
         refusal: DupRefusal,
         /// The whole buffer of a call that was given one.

@@ -42,7 +42,11 @@ fn check_draw(modes: &Modes, mode: Mode, draw: &Draw) -> Result<(), LogRefusal>
                 Err(LogRefusal::BadMode)
             }
         }
-        Draw::Switch { .. } | Draw::Disconnect | Draw::Reconnect => Ok(()),
+        Draw::Pointer { .. }
+        | Draw::Shape(_)
+        | Draw::Switch { .. }
+        | Draw::Disconnect
+        | Draw::Reconnect => Ok(()),
     }
 }
 

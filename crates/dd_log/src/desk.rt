@@ -2,11 +2,13 @@
 
 ghost use Rattle.std.specs.Prelude.{◌≡◌, ◌<◌, IsTrue, IfSome, is_none, is_some, slice_get, slice_index_or, unwrap_or, length, position};
 ghost use Rattle.dd_geom.specs.Rect.{IsSize};
-ghost use Rattle.dd_log.specs.Desk.{first_desk, desk_after, mode_drawn, mode_after as mode_then, secure_drawn, secure_after as secure_then, connected_drawn, connected_after as connected_then, slots_after, place_after as place_then, finds_slot, is_app};
+ghost use Rattle.dd_log.specs.Desk.{first_desk, desk_after, mode_drawn, mode_after as mode_then, secure_drawn, secure_after as secure_then, connected_drawn, connected_after as connected_then, pointer_after as pointer_then, slots_after, place_after as place_then, finds_slot, is_app};
 ghost use Rattle.dd_log.specs.declared.desk.TheConstants.{MAX_DUPLICATORS};
 ghost use Rattle.dd_log.specs.declared.events.TheConstants.{MAX_ACTORS, MAX_CAPACITY};
 
+use crate::answers::Pointer;
 use crate::events::{Draw, Entry, Event, MAX_ACTORS};
+use dd_geom::Point;
 use dd_modes::{Mode, Modes};
 
 /// How many duplicators of one output may be open at once.
@@ -31,6 +33,11 @@ pub struct Desk {
     pub cut_off: u64,
     /// The place after the last present, else 0.
     pub presented: u64,
+    /// The place after the last entry that sets the pointer or its shape, else 0.
+    pub pointed: u64,
+    /// The place after the last entry that gives the pointer a shape, else 0.
+    pub shaped: u64,
+    pub pointer: Pointer,
     /// The application of each open slot.
     pub slots: [Option<u32>; MAX_DUPLICATORS],
     /// The last step of each actor, 0 where it has none.
@@ -71,7 +78,12 @@ fn mode_of(modes: &Modes, old: Mode, draw: &Draw) -> Mode
 {
     match draw {
         Draw::Mode { index } => modes.get(*index).unwrap_or(old),
-        Draw::Present(_) | Draw::Switch { .. } | Draw::Disconnect | Draw::Reconnect => old,
+        Draw::Present(_)
+        | Draw::Pointer { .. }
+        | Draw::Shape(_)
+        | Draw::Switch { .. }
+        | Draw::Disconnect
+        | Draw::Reconnect => old,
     }
 }
 
@@ -93,7 +105,12 @@ fn secure_of(old: bool, draw: &Draw) -> bool
 {
     match draw {
         Draw::Switch { secure } => *secure,
-        Draw::Present(_) | Draw::Mode { .. } | Draw::Disconnect | Draw::Reconnect => old,
+        Draw::Present(_)
+        | Draw::Pointer { .. }
+        | Draw::Shape(_)
+        | Draw::Mode { .. }
+        | Draw::Disconnect
+        | Draw::Reconnect => old,
     }
 }
 
@@ -114,7 +131,11 @@ fn connected_of(old: bool, draw: &Draw) -> bool
     match draw {
         Draw::Disconnect => false,
         Draw::Reconnect => true,
-        Draw::Present(_) | Draw::Mode { .. } | Draw::Switch { .. } => old,
+        Draw::Present(_)
+        | Draw::Pointer { .. }
+        | Draw::Shape(_)
+        | Draw::Mode { .. }
+        | Draw::Switch { .. } => old,
     }
 }
 
@@ -126,6 +147,13 @@ fn connected_after(old: bool, event: &Event) -> bool
         Event::Draw(draw) => connected_of(old, draw),
         Event::Opened { .. } | Event::Closed { .. } | Event::End => old,
     }
+}
+
+/// The pointer after an event.
+fn pointer_after(old: Pointer, event: &Event) -> Pointer
+    ensures { result ≡ pointer_then old event.now }
+{
+    event.pointer().unwrap_or(old)
 }
 
 /// The place after the last entry of a kind, where the next one, after `len` others, is of that
@@ -165,6 +193,12 @@ impl Desk {
             picture_start: 0,
             cut_off: 0,
             presented: 0,
+            pointed: 0,
+            shaped: 0,
+            pointer: Pointer {
+                position: Point { x: 0, y: 0 },
+                visible: false,
+            },
             slots: [None; MAX_DUPLICATORS],
             steps: [0; MAX_ACTORS as usize],
         }
@@ -188,6 +222,9 @@ impl Desk {
         self.picture_start = place_after(event.begins_picture(), self.len, self.picture_start);
         self.cut_off = place_after(event.cuts_off(), self.len, self.cut_off);
         self.presented = place_after(event.present().is_some(), self.len, self.presented);
+        self.pointed = place_after(event.is_pointing(), self.len, self.pointed);
+        self.shaped = place_after(event.shape().is_some(), self.len, self.shaped);
+        self.pointer = pointer_after(self.pointer, event);
         change_slot(&mut self.slots, event);
         self.steps[entry.actor as usize] = entry.step;
         self.len += 1;

@@ -1,11 +1,14 @@
 //! The events of an output's list.
 
 ghost use Rattle.std.specs.Prelude.{◌≡◌, IfOk, option_map};
-ghost use Rattle.dd_log.specs.Events.{operations_of, present_of, draws_anew, begins_picture, loses, cuts_off, is_end};
+ghost use Rattle.dd_log.specs.Events.{operations_of, present_of, pointer_given, pointer_in, shape_given, shape_in, is_pointing, draws_anew, begins_picture, loses, cuts_off, is_end};
 
+use crate::answers::Pointer;
 use crate::lists::Apps;
+use dd_geom::Point;
 use dd_modes::Modes;
 use dd_ops::Ops;
+use dd_pointer::Shape;
 use std::alloc::AllocError;
 
 /// One past the greatest number of an actor.
@@ -47,6 +50,10 @@ impl Spec {
 pub enum Draw {
     /// Draws 0 to 64 operations, in their order.
     Present(Ops),
+    /// Moves the pointer, and shows or hides it.
+    Pointer { position: Point, visible: bool },
+    /// Gives the pointer this shape.
+    Shape(Shape),
     /// Sets the mode, one of those of the spec, from 0, and begins a black picture.
     Mode { index: u32 },
     /// Goes to the secure desktop, or back from it, and begins a black picture.
@@ -64,6 +71,11 @@ impl Draw {
     {
         match self {
             Draw::Present(ops) => Ok(Draw::Present(ops.copy()?)),
+            Draw::Pointer { position, visible } => Ok(Draw::Pointer {
+                position: *position,
+                visible: *visible,
+            }),
+            Draw::Shape(shape) => Ok(Draw::Shape(shape.copy()?)),
             Draw::Mode { index } => Ok(Draw::Mode { index: *index }),
             Draw::Switch { secure } => Ok(Draw::Switch { secure: *secure }),
             Draw::Disconnect => Ok(Draw::Disconnect),
@@ -77,7 +89,45 @@ impl Draw {
     {
         match self {
             Draw::Present(ops) => Some(ops),
-            Draw::Mode { .. } | Draw::Switch { .. } | Draw::Disconnect | Draw::Reconnect => None,
+            Draw::Pointer { .. }
+            | Draw::Shape(_)
+            | Draw::Mode { .. }
+            | Draw::Switch { .. }
+            | Draw::Disconnect
+            | Draw::Reconnect => None,
+        }
+    }
+
+    /// The pointer that it sets; none for any other drawing.
+    fn pointer(&self) -> Option<Pointer>
+        ensures { result ≡ pointer_given self.now }
+    {
+        match self {
+            Draw::Pointer { position, visible } => Some(Pointer {
+                position: *position,
+                visible: *visible,
+            }),
+            Draw::Present(_)
+            | Draw::Shape(_)
+            | Draw::Mode { .. }
+            | Draw::Switch { .. }
+            | Draw::Disconnect
+            | Draw::Reconnect => None,
+        }
+    }
+
+    /// The shape that it gives the pointer; none for any other drawing.
+    fn shape(&self) -> Option<&Shape>
+        ensures { option_map (λ shape. shape.now) result ≡ shape_given self.now }
+    {
+        match self {
+            Draw::Shape(shape) => Some(shape),
+            Draw::Present(_)
+            | Draw::Pointer { .. }
+            | Draw::Mode { .. }
+            | Draw::Switch { .. }
+            | Draw::Disconnect
+            | Draw::Reconnect => None,
         }
     }
 
@@ -87,7 +137,11 @@ impl Draw {
     {
         match self {
             Draw::Mode { .. } | Draw::Switch { .. } => true,
-            Draw::Present(_) | Draw::Disconnect | Draw::Reconnect => false,
+            Draw::Present(_)
+            | Draw::Pointer { .. }
+            | Draw::Shape(_)
+            | Draw::Disconnect
+            | Draw::Reconnect => false,
         }
     }
 
@@ -97,7 +151,7 @@ impl Draw {
     {
         match self {
             Draw::Mode { .. } | Draw::Switch { .. } | Draw::Disconnect => true,
-            Draw::Present(_) | Draw::Reconnect => false,
+            Draw::Present(_) | Draw::Pointer { .. } | Draw::Shape(_) | Draw::Reconnect => false,
         }
     }
 }
@@ -138,6 +192,33 @@ impl Event {
             Event::Draw(draw) => draw.operations(),
             Event::Opened { .. } | Event::Closed { .. } | Event::End => None,
         }
+    }
+
+    /// The pointer that it sets; none for any other event.
+    pub fn pointer(&self) -> Option<Pointer>
+        ensures { result ≡ pointer_in self.now }
+    {
+        match self {
+            Event::Draw(draw) => draw.pointer(),
+            Event::Opened { .. } | Event::Closed { .. } | Event::End => None,
+        }
+    }
+
+    /// The shape that it gives the pointer; none for any other event.
+    pub fn shape(&self) -> Option<&Shape>
+        ensures { option_map (λ shape. shape.now) result ≡ shape_in self.now }
+    {
+        match self {
+            Event::Draw(draw) => draw.shape(),
+            Event::Opened { .. } | Event::Closed { .. } | Event::End => None,
+        }
+    }
+
+    /// Whether it sets the pointer or its shape.
+    pub fn is_pointing(&self) -> bool
+        ensures { result ≡ is_pointing self.now }
+    {
+        self.pointer().is_some() | self.shape().is_some()
     }
 
     /// Whether the desk has a black picture after it, in the mode that stands then.

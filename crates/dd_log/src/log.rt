@@ -1,16 +1,18 @@
 //! The list of an output's events, kept whole for the output's life.
 
-ghost use Rattle.std.specs.Prelude.{◌≡◌, ◌≤◌, ◌<◌, length, drop, false, None, IsTrue, IfOk, OnOk, OnErr, is_none, slice_get, option_map, unwrap_or, position, vec_capacity, vec_len};
+ghost use Rattle.std.specs.Prelude.{◌≡◌, ◌≤◌, ◌<◌, length, drop, false, None, IsTrue, IfOk, OnOk, OnErr, is_none, slice_get, option_map, unwrap_or, position, vec_capacity, vec_len, nat_lt, if◌then◌else◌};
 ghost use Rattle.std.specs.Prelude.{◌==◌};
 ghost use Rattle.std.specs.List.{list_any};
 ghost use Rattle.dd_geom.specs.Rect.{IsSize};
 ghost use Rattle.dd_log.specs.declared.events.TheConstants.{MAX_ACTORS, MAX_CAPACITY};
+ghost use Rattle.dd_log.specs.Events.{shape_at};
 
-use crate::answers::LogRefusal;
+use crate::answers::{LogRefusal, Pointer};
 use crate::causes::check_event;
 use crate::desk::Desk;
 use crate::events::{Entry, Event, MAX_CAPACITY, Spec};
 use dd_modes::Mode;
+use dd_pointer::Shape;
 use std::alloc::{AllocError, Global};
 use std::marker::Model;
 
@@ -46,9 +48,26 @@ fn copies(alloc: Global, entries: &[Entry], room: usize) -> Result<Vec<Entry>, A
     Ok(items)
 }
 
+/// The place after an entry, which is its event number, where it stands from another place on; else 0.
+fn since(place: u64, after: u64) -> u64
+    ensures { result ≡ (if nat_lt place after then after else 0) }
+{
+    if place < after { after } else { 0 }
+}
+
+/// The shape that an entry gives the pointer, where there is one.
+fn shape_of(entry: Option<&Entry>) -> Option<&Shape>
+    ensures { option_map (λ shape. shape.now) result ≡ shape_at (option_map (λ e. e.now) entry.entry) }
+{
+    match entry {
+        None => None,
+        Some(entry) => entry.event.shape(),
+    }
+}
+
 impl Log {
     ghost use Rattle.dd_log.specs.Desk.{finds_slot, is_app};
-    ghost use Rattle.dd_log.specs.History.{begun, with_entry, ended_by, desk, desk_mode, legal, may_add, refusal, verdict, is_end, is_full, last_step, entries_fit, any_begins, any_cuts_off, any_presents, any_ends};
+    ghost use Rattle.dd_log.specs.History.{begun, with_entry, ended_by, desk, desk_mode, legal, may_add, refusal, verdict, is_end, is_full, last_step, entries_fit, any_begins, any_cuts_off, any_presents, any_points, any_ends, last_present, last_pointed, last_shape};
 
     /// An empty list, with memory for all entries that it may ever have.
     pub fn start(alloc: Global, spec: Spec) -> Result<Log, AllocError>
@@ -182,6 +201,46 @@ impl Log {
         ensures { result ≡ any_presents (drop place self.now.entries) }
     {
         place < self.desk.presented
+    }
+
+    /// The event number, from 1, of the last present from a place on; 0 where there is none.
+    pub fn last_present(&self, place: u64) -> u64
+        ensures { result ≡ last_present place (drop place self.now.entries) }
+    {
+        since(place, self.desk.presented)
+    }
+
+    /// Whether the pointer or its shape is set from a place on.
+    pub fn pointed_since(&self, place: u64) -> bool
+        ensures { result ≡ any_points (drop place self.now.entries) }
+    {
+        place < self.desk.pointed
+    }
+
+    /// The event number, from 1, of the last entry from a place on that sets the pointer or its
+    /// shape; 0 where there is none.
+    pub fn last_pointed(&self, place: u64) -> u64
+        ensures { result ≡ last_pointed place (drop place self.now.entries) }
+    {
+        since(place, self.desk.pointed)
+    }
+
+    /// The last shape that the pointer gets from a place on, if it gets one.
+    pub fn shape_since(&self, place: u64) -> Option<&Shape>
+        ensures { option_map (λ shape. shape.now) result ≡ last_shape (drop place self.now.entries) }
+    {
+        if place < self.desk.shaped {
+            shape_of(self.get(self.desk.shaped - 1))
+        } else {
+            None
+        }
+    }
+
+    /// The pointer of the desk.
+    pub fn pointer(&self) -> Pointer
+        ensures { result ≡ (desk self.now).pointer }
+    {
+        self.desk.pointer
     }
 
     /// The last step of an actor, 0 where it has none.
