@@ -1,6 +1,5 @@
 -- A duplicator's value, as contracts see it.
 use Rattle.std.specs.Prelude.{◌≡◌, ℕ, ◌+◌, ◌-◌, Bool, true, false, if◌then◌else◌, List, length, Option, Some, None, option_map, Result, Ok, Err}
-use Rattle.dd_geom.specs.declared.rect.Rect.{Rect}
 use Rattle.dd_geom.specs.Grid.{Grid, grid}
 use Rattle.dd_grid.specs.Drawing.{hidden_points}
 use Rattle.dd_bits.specs.CanonicalList.{canonical_list}

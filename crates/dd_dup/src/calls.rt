@@ -120,7 +120,12 @@ fn in_buffer_of(answer: Result<u32, DupRefusal>, buffer: Vec<u8>) -> Answer
 }
 
 /// The moves of the held frame, in a buffer of this many bytes.
-pub(crate) fn moves(alloc: Global, dup: &mut Dup, log: &Log, size: u32) -> Result<Answer, AllocError>
+pub(crate) fn moves(
+    alloc: Global,
+    dup: &mut Dup,
+    log: &Log,
+    size: u32,
+) -> Result<Answer, AllocError>
     requires { Stands dup.old log.now }
     ensures answer { IfOk result (λ a. a ≡ in_buffer buffer_answer (moves_reply dup.old.memory log.now (filled_buffer size))) }
     ensures memory { OnOk result (dup.new.memory ≡ held_memory dup.old.memory log.now) }
@@ -133,7 +138,12 @@ pub(crate) fn moves(alloc: Global, dup: &mut Dup, log: &Log, size: u32) -> Resul
 }
 
 /// The dirty rectangles of the held frame, in a buffer of this many bytes.
-pub(crate) fn dirty(alloc: Global, dup: &mut Dup, log: &Log, size: u32) -> Result<Answer, AllocError>
+pub(crate) fn dirty(
+    alloc: Global,
+    dup: &mut Dup,
+    log: &Log,
+    size: u32,
+) -> Result<Answer, AllocError>
     requires { Stands dup.old log.now }
     ensures answer { IfOk result (λ a. a ≡ in_buffer buffer_answer (dirty_reply dup.old.memory log.now (filled_buffer size))) }
     ensures memory { OnOk result (dup.new.memory ≡ held_memory dup.old.memory log.now) }
@@ -174,7 +184,12 @@ fn shape_in_buffer(
 }
 
 /// The new shape of the held frame, in a buffer of this many bytes.
-pub(crate) fn shape(alloc: Global, dup: &mut Dup, log: &Log, size: u32) -> Result<Answer, AllocError>
+pub(crate) fn shape(
+    alloc: Global,
+    dup: &mut Dup,
+    log: &Log,
+    size: u32,
+) -> Result<Answer, AllocError>
     requires { Stands dup.old log.now }
     ensures answer { IfOk result (λ a. a ≡ in_buffer (shape_answer (held_shape_info dup.old.memory.held)) (shape_reply dup.old.memory log.now (filled_buffer size))) }
     ensures memory { OnOk result (dup.new.memory ≡ held_memory dup.old.memory log.now) }
