@@ -1,9 +1,10 @@
 -- The veil of a list: what it is the same in, what it refuses, and that it is legal where the list is.
 use Rattle.std.proofs.Common.{◌≡◌, ℕ, ◌+◌, Bool, true, ◌&&◌, not, nat_lt, nat_le, List, [], ◌∷◌, ◌++◌, map, fold, Option, Some, None, option_map, refl, sym, ap, ◌∙◌, if◌then◌else◌, ◌==◌}
-use Rattle.std.specs.Prelude.{is_none}
-use Rattle.std.specs.List.{cons_option}
+use Rattle.std.specs.Prelude.{is_none, is_some, ◌||◌}
+use Rattle.std.specs.List.{cons_option, list_any}
+use Rattle.std.specs.Option.{option_or}
 use Rattle.std.proofs.lemmas.Bool.{and_from, and_parts}
-use Rattle.std.proofs.lemmas.List.{length-map, map-append}
+use Rattle.std.proofs.lemmas.List.{length-map, map-append, take-map}
 use Rattle.dd_geom.specs.Grid.{Grid}
 use Rattle.dd_grid.specs.Cell.{Cell}
 use Rattle.dd_grid.specs.Drawing.{seen, hidden_points}
@@ -24,9 +25,10 @@ use Rattle.dd_log.specs.declared.events.Draw.TheVariants.{Present, Switch, Disco
 use Rattle.dd_log.specs.declared.events.Draw.TheVariants as drawings
 use Rattle.dd_log.specs.declared.events.Spec.{Spec}
 use Rattle.dd_log.specs.declared.events.TheConstants.{MAX_ACTORS}
-use Rattle.dd_log.specs.Events.{present_of, is_end}
+use Rattle.dd_pointer.specs.Shape.{PointerShape}
+use Rattle.dd_log.specs.Events.{present_of, shape_given, shape_in, loses, cuts_off, is_present, is_pointing, is_end, any_cuts_off, any_presents, any_points, number_from, last_present, last_pointed, last_shape}
 use Rattle.dd_log.specs.Desk.{first_desk, desk_after, desk_of, finds_slot}
-use Rattle.dd_log.specs.History.{History, desk, desk_mode, last_step, is_full, bad_event, bad_draw, present_fits, refusal, may_add, legal_after, legal}
+use Rattle.dd_log.specs.History.{History, desk, desk_mode, first_entries, last_step, is_full, bad_event, bad_draw, present_fits, refusal, may_add, legal_after, legal}
 use Rattle.dd_log.specs.Picture.{State, first_state, state_after, state_of, picture, picture_after, presents}
 use Rattle.dd_log.specs.Veil.{veiled_drawing, veiled_event, veiled_entry, veil, present_coloured, event_coloured, entries_coloured, VeilShows, VeilRefuses, VeilIsLegal}
 use Rattle.dd_log.proofs.Legal.{parts_of_may_add, allowed_by, fits_mode}
@@ -284,3 +286,100 @@ is_legal-veiled h =
       legal_veil = λ (t : legal h ≡ true). legal-veiled h (coloured_where_legal h t) ∙ t;
       same_legal = legal-veiled h;
     }
+
+-- what some entries tell beside their operations
+cuts_same : (e : Event) → cuts_off (veiled_event e) ≡ cuts_off e
+cuts_same (events.Draw drawing) = cuts_drawn drawing where
+  cuts_drawn : (drawing : Draw) → loses (veiled_drawing drawing) ≡ loses drawing
+  cuts_drawn (Present ops) = refl
+  cuts_drawn (drawings.Pointer position visible) = refl
+  cuts_drawn (drawings.Shape shape) = refl
+  cuts_drawn (drawings.Mode index) = refl
+  cuts_drawn (Switch secure) = refl
+  cuts_drawn Disconnect = refl
+  cuts_drawn Reconnect = refl
+cuts_same (Opened slot app) = refl
+cuts_same (Closed slot) = refl
+cuts_same End = refl
+
+shape_same : (e : Event) → shape_in (veiled_event e) ≡ shape_in e
+shape_same (events.Draw drawing) = shape_drawn drawing where
+  shape_drawn : (drawing : Draw) → shape_given (veiled_drawing drawing) ≡ shape_given drawing
+  shape_drawn (Present ops) = refl
+  shape_drawn (drawings.Pointer position visible) = refl
+  shape_drawn (drawings.Shape shape) = refl
+  shape_drawn (drawings.Mode index) = refl
+  shape_drawn (Switch secure) = refl
+  shape_drawn Disconnect = refl
+  shape_drawn Reconnect = refl
+shape_same (Opened slot app) = refl
+shape_same (Closed slot) = refl
+shape_same End = refl
+
+pointing_same : (e : Event) → is_pointing (veiled_event e) ≡ is_pointing e
+pointing_same (events.Draw drawing) = pointing_drawn drawing where
+  pointing_drawn : (drawing : Draw)
+      → is_pointing (events.Draw (veiled_drawing drawing)) ≡ is_pointing (events.Draw drawing)
+  pointing_drawn (Present ops) = refl
+  pointing_drawn (drawings.Pointer position visible) = refl
+  pointing_drawn (drawings.Shape shape) = refl
+  pointing_drawn (drawings.Mode index) = refl
+  pointing_drawn (Switch secure) = refl
+  pointing_drawn Disconnect = refl
+  pointing_drawn Reconnect = refl
+pointing_same (Opened slot app) = refl
+pointing_same (Closed slot) = refl
+pointing_same End = refl
+
+is_some_veiled : (present : Option (List Op)) → is_some (option_map veiled present) ≡ is_some present
+is_some_veiled None = refl
+is_some_veiled (Some ops) = refl
+
+present_same : (e : Event) → is_present (veiled_event e) ≡ is_present e
+present_same e = ap is_some (present-veiled e) ∙ is_some_veiled (present_of e)
+
+module _ (is : Event → Bool) (same : (e : Event) → is (veiled_event e) ≡ is e) where
+  any_same : (es : List Entry)
+      → list_any (λ e. is e.event) (map veiled_entry es) ≡ list_any (λ e. is e.event) es
+  any_same [] = refl
+  any_same (e ∷ es) =
+      ap (λ b. b || list_any (λ x. is x.event) (map veiled_entry es)) (same e.event)
+      ∙ ap (λ b. is e.event || b) (any_same es)
+
+  number_same : (es : List Entry) (last place : ℕ)
+      → number_from is last place (map veiled_entry es) ≡ number_from is last place es
+  number_same [] last place = refl
+  number_same (e ∷ es) last place =
+      ap (λ (b : Bool). number_from is (if b then place + 1 else last) (place + 1) (map veiled_entry es)) (same e.event)
+      ∙ number_same es (if is e.event then place + 1 else last) (place + 1)
+
+pub any_cuts-veiled : (es : List Entry) → any_cuts_off (map veiled_entry es) ≡ any_cuts_off es
+any_cuts-veiled es = any_same cuts_off cuts_same es
+
+pub any_presents-veiled : (es : List Entry) → any_presents (map veiled_entry es) ≡ any_presents es
+any_presents-veiled es = any_same is_present present_same es
+
+pub any_points-veiled : (es : List Entry) → any_points (map veiled_entry es) ≡ any_points es
+any_points-veiled es = any_same is_pointing pointing_same es
+
+pub last_present-veiled : (place : ℕ) (es : List Entry) → last_present place (map veiled_entry es) ≡ last_present place es
+last_present-veiled place es = number_same is_present present_same es 0 place
+
+pub last_pointed-veiled : (place : ℕ) (es : List Entry) → last_pointed place (map veiled_entry es) ≡ last_pointed place es
+last_pointed-veiled place es = number_same is_pointing pointing_same es 0 place
+
+shape_from : (es : List Entry) (shape : Option PointerShape)
+    → fold (λ s e. option_or (shape_in e.event) s) shape (map veiled_entry es)
+    ≡ fold (λ s e. option_or (shape_in e.event) s) shape es
+shape_from [] shape = refl
+shape_from (e ∷ es) shape =
+    ap (λ (s : Option PointerShape). fold (λ t x. option_or (shape_in x.event) t) (option_or s shape) (map veiled_entry es))
+    (shape_same e.event)
+    ∙ shape_from es (option_or (shape_in e.event) shape)
+
+pub last_shape-veiled : (es : List Entry) → last_shape (map veiled_entry es) ≡ last_shape es
+last_shape-veiled es = shape_from es None
+
+-- the first entries of a veil are the veil of the first entries
+pub first-veiled : (h : History) (n : ℕ) → first_entries n (veil h) ≡ veil (first_entries n h)
+first-veiled h n = ap (listed h.spec) (take-map veiled_entry n h.entries)
