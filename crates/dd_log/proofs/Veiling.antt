@@ -1,10 +1,11 @@
 -- The veil of a list: what it is the same in, what it refuses, and that it is legal where the list is.
 use Rattle.std.proofs.Common.{◌≡◌, ℕ, ◌+◌, Bool, true, ◌&&◌, not, nat_lt, nat_le, List, [], ◌∷◌, ◌++◌, map, fold, Option, Some, None, option_map, refl, sym, ap, ◌∙◌, if◌then◌else◌, ◌==◌}
-use Rattle.std.specs.Prelude.{is_none, is_some, ◌||◌}
+use Rattle.std.specs.Prelude.{is_none, is_some, slice_get, ◌||◌}
 use Rattle.std.specs.List.{cons_option, list_any}
 use Rattle.std.specs.Option.{option_or}
 use Rattle.std.proofs.lemmas.Bool.{and_from, and_parts}
 use Rattle.std.proofs.lemmas.List.{length-map, map-append, take-map}
+use Rattle.std.proofs.lemmas.Option.{slice_get-map}
 use Rattle.dd_geom.specs.Grid.{Grid}
 use Rattle.dd_grid.specs.Cell.{Cell}
 use Rattle.dd_grid.specs.Drawing.{seen, hidden_points}
@@ -28,7 +29,8 @@ use Rattle.dd_log.specs.declared.events.TheConstants.{MAX_ACTORS}
 use Rattle.dd_pointer.specs.Shape.{PointerShape}
 use Rattle.dd_log.specs.Events.{present_of, shape_given, shape_in, loses, cuts_off, is_present, is_pointing, is_end, any_cuts_off, any_presents, any_points, number_from, last_present, last_pointed, last_shape}
 use Rattle.dd_log.specs.Desk.{first_desk, desk_after, desk_of, finds_slot}
-use Rattle.dd_log.specs.History.{History, desk, desk_mode, first_entries, last_step, is_full, bad_event, bad_draw, present_fits, refusal, may_add, legal_after, legal}
+use Rattle.dd_log.specs.History.{History, with_entry, desk, desk_mode, first_entries, last_step, is_full, bad_event, bad_draw, present_fits, refusal, may_add, legal_after, legal}
+use Rattle.dd_log.specs.Slots.{slot_opened, entry_slot, slot_at}
 use Rattle.dd_log.specs.Picture.{State, first_state, state_after, state_of, picture, picture_after, presents}
 use Rattle.dd_log.specs.Veil.{veiled_drawing, veiled_event, veiled_entry, veil, present_coloured, event_coloured, entries_coloured, VeilShows, VeilRefuses, VeilIsLegal}
 use Rattle.dd_log.proofs.Legal.{parts_of_may_add, allowed_by, fits_mode}
@@ -383,3 +385,22 @@ last_shape-veiled es = shape_from es None
 -- the first entries of a veil are the veil of the first entries
 pub first-veiled : (h : History) (n : ℕ) → first_entries n (veil h) ≡ veil (first_entries n h)
 first-veiled h n = ap (listed h.spec) (take-map veiled_entry n h.entries)
+
+-- the slot of an opening
+opened_same : (e : Event) → slot_opened (veiled_event e) ≡ slot_opened e
+opened_same (events.Draw drawing) = refl
+opened_same (Opened slot app) = refl
+opened_same (Closed slot) = refl
+opened_same End = refl
+
+entry_slot_same : (e : Option Entry) → entry_slot (option_map veiled_entry e) ≡ entry_slot e
+entry_slot_same None = refl
+entry_slot_same (Some e) = opened_same e.event
+
+pub slot_at-veiled : (h : History) (place : ℕ) → slot_at (veil h) place ≡ slot_at h place
+slot_at-veiled h place =
+    ap entry_slot (slice_get-map veiled_entry h.entries place) ∙ entry_slot_same (slice_get h.entries place)
+
+-- one entry more
+pub push-veiled : (h : History) (e : Entry) → with_entry (veil h) (veiled_entry e) ≡ veil (with_entry h e)
+push-veiled h e = ap (listed h.spec) (sym (map-append veiled_entry h.entries (e ∷ [])))
