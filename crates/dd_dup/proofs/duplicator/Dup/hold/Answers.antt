@@ -2,7 +2,9 @@ use Rattle.std.proofs.Common.{sym, subst}
 use Rattle.dd_dup.specs.News.{news, news_since}
 use Rattle.dd_dup.specs.Duplicator.{Duplicator, HeldRebuilds, IsReached, IsExactSince}
 use Rattle.dd_dup.specs.Stands.{Stands}
+use Rattle.dd_dup.specs.Veil.{HoldsVeil}
 use Rattle.dd_dup.proofs.Frames.{granted_is, granted_kept, kept_parts, stands_holding, rebuilds_held, reached, exact}
+use Rattle.dd_dup.proofs.Veiling.{holds_veil}
 use Rattle.dd_dup.proofs.duplicator.Dup.hold.Goals as goal
 
 pub take-requires-clause-begins : goal.take-requires-clause-begins
@@ -54,3 +56,9 @@ returns-clause-honest c =
     granted_kept d.memory h (news_since h d.memory.mark d.memory.pointer_mark) c.args.next c.requires.next in
     subst (λ (e : Duplicator). IsExactSince e.memory.held h d.memory.mark) (sym c.take.ensures.held)
     (exact h d.memory.mark d.memory.pointer_mark c.take.ensures.legal (kept_parts d h c.requires.stands kept).1)
+
+pub returns-clause-veiled : goal.returns-clause-veiled
+returns-clause-veiled c =
+    let h = c.args.log.now in
+    let d = c.args.self.now in
+    subst (λ (e : Duplicator). HoldsVeil d e h) (sym c.take.ensures.held) (holds_veil d h)
