@@ -289,7 +289,8 @@ closing_skip (Ok slot) k j s r same none = absurd (one_more s.history (entry_of 
 closing_skip (Err cause) k j s r same none =
     record { list = same.list; clients = same.clients; size = same.size; own = same.own; others = same.others }
 
-asking_skip : (k j : ℕ) (s r : State) (call : DupCall) → k - 1 ≢ j - 1 → Same k s r → Same k (asking_outcome s j call).1 r
+asking_skip : (k j : ℕ) (s r : State) (call : DupCall) → k - 1 ≢ j - 1 → Same k s r
+    → Same k (asking_outcome s j call).1 r
 asking_skip k j s r call apart same =
     let u : Option Memory = (client_reply call (memory_of s j) s.history).1 in
     record {

@@ -89,7 +89,8 @@ cuts_same : (es : List Entry) → any_cuts_off es ≡ any_cuts_off (map unnumber
 cuts_same [] = refl
 cuts_same (e ∷ es) = ap (λ b. cuts_off e.event || b) (cuts_same es)
 
-last_same : (es : List Entry) (last place : ℕ) → last_present last place es ≡ last_present last place (map unnumbered es)
+last_same : (es : List Entry) (last place : ℕ)
+    → last_present last place es ≡ last_present last place (map unnumbered es)
 last_same [] last place = refl
 last_same (e ∷ es) last place = last_same es _ (place + 1)
 
