@@ -1,9 +1,8 @@
 -- Entries one after another: what one more adds to the presents, the picture and what is gathered.
-use Rattle.std.proofs.Common.{◌≡◌, ℕ, ◌+◌, ◌<◌, ◌≤◌, Bool, true, List, [], ◌∷◌, ◌++◌, length, take, drop, get_or, Option, Some, None, Result, Ok, Err, refl, sym, ap, ◌∙◌, append-nil, arith, length-append, if◌then◌else◌}
-use Rattle.std.specs.Prelude.{is_some, option_map, IsSome, OnErr}
+use Rattle.std.proofs.Common.{◌≡◌, ℕ, ◌+◌, ◌<◌, ◌≤◌, Bool, true, List, [], ◌∷◌, ◌++◌, length, take, get_or, Option, Some, None, refl, sym, ap, ◌∙◌, append-nil, arith}
 use Rattle.std.specs.List.{fold, cons_option}
 use Rattle.std.proofs.lemmas.Bool.{and_parts, and_from}
-use Rattle.std.proofs.lemmas.List.{take_more, length-take, take-append-drop}
+use Rattle.std.proofs.lemmas.List.{take_more, length-take}
 use Rattle.std.proofs.lemmas.List.Elements.{filter_map-append}
 use Rattle.std.proofs.lemmas.List.Sums.{AllPass-from_list_all, fold_push}
 use Rattle.dd_geom.specs.Grid.{Grid}
@@ -17,10 +16,8 @@ use Rattle.dd_acc.proofs.Honest.{width-dirt, height-dirt}
 use Rattle.dd_log.specs.declared.events.Entry.{Entry}
 use Rattle.dd_log.specs.History.{present_of, present_fits, event_fits, entries_fit}
 use Rattle.dd_log.specs.Picture.{presents, drawn_if, shown, shown_after}
-use Rattle.dd_dup.specs.declared.frame.News.{News}
-use Rattle.dd_dup.specs.declared.news.Gathered.{Gathered}
-use Rattle.dd_dup.specs.News.{number_after, last_present, news_of, dirt_of, where_any}
-use Rattle.dd_dup.specs.Walk.{interval_of, gathered_next, gathered_of, gathered, news_from}
+use Rattle.dd_dup.specs.News.{picture_news, dirt_of}
+use Rattle.dd_dup.specs.Walk.{gathered_next, gathered, news_from}
 
 -- the entry at a place joins those before it
 take_item : (es : List Entry) (k : ℕ) (e : Entry) → k < length es → e ≡ get_or es k e
@@ -67,23 +64,6 @@ length-presents (e ∷ es) =
       length-presents es,
     )
 
--- a present among the entries is one of their presents
-one_at_least : (o : Option (List Op)) → is_some o ≡ true → 1 ≤ length (cons_option o [])
-one_at_least None t = cc
-one_at_least (Some ops) t = omega arith
-
-pub some_present : (es : List Entry) (k : ℕ) (e : Entry) → k < length es → e ≡ get_or es k e
-    → IsSome (present_of e.event) → 1 ≤ length (presents es)
-some_present es k e k_in is t =
-    let more : List (List Op) = cons_option (present_of e.event) [] in
-    let before : List Entry = take (k + 1) es in
-    let rest : List Entry = drop (k + 1) es in
-    let split = ap length (ap presents (sym (take-append-drop (k + 1) es)) ∙ presents-append before rest) in
-    let longer = length-append (presents before) (presents rest) in
-    let here = ap length (presents_more es k e k_in is) in
-    let joined = length-append (presents (take k es)) more in
-    omega (arith, split, longer, here, joined, one_at_least (present_of e.event) t)
-
 pub shown_more : (p q : Grid Cell) (es : List Entry) (k : ℕ) (e : Entry) → k < length es → e ≡ get_or es k e
     → q ≡ shown p (take k es)
     → shown_after q e.event ≡ shown p (take (k + 1) es)
@@ -99,119 +79,57 @@ unfolding entries_fit
 fit_item w h es k e t k_in is = ap (λ (x : Entry). event_fits w h x.event) is
     ∙ AllPass-from_list_all (λ (x : Entry). event_fits w h x.event) es t k e k_in
 
--- the last present of entries one after another
-last-push : (xs : List Entry) (e : Entry) (last place n : ℕ) → n ≡ place + length xs
-    → last_present last place (xs ++ e ∷ []) ≡ number_after (last_present last place xs) n e.event
-last-push [] e last place n is = ap (λ k. number_after last k e.event) (omega arith)
-last-push (x ∷ xs) e last place n is = last-push xs e (number_after last place x.event) (place + 1) n (omega arith)
+-- one event more is gathered
+gathered_push : (i : Interval) (ps : List (List Op)) (o : Option (List Op))
+    → gathered_next (fold with_present i ps) o ≡ fold with_present i (ps ++ cons_option o [])
+gathered_push i ps None = ap (fold with_present i) (sym (append-nil ps))
+gathered_push i ps (Some ops) = sym (fold_push with_present i ps ops)
 
-last_more : (es : List Entry) (place k : ℕ) (e : Entry) → k < length es → e ≡ get_or es k e
-    → last_present 0 place (take (k + 1) es) ≡ number_after (last_present 0 place (take k es)) (place + k) e.event
-last_more es place k e k_in is =
-    ap (last_present 0 place) (take_item es k e k_in is)
-    ∙ last-push (take k es) e 0 place (place + k) (omega (arith, length-take k es))
-
--- one present more is gathered
-gathered-push : (w h : ℕ) (ps : List (List Op)) (last number : ℕ) (o : Option (List Op))
-    → gathered_next w h (gathered_of w h ps last) number o ≡ gathered_of w h (ps ++ cons_option o [])
-    (if is_some o then number else last)
-gathered-push w h ps last number None = ap (λ qs. gathered_of w h qs last) (sym (append-nil ps))
-gathered-push w h [] last number (Some ops) = refl
-gathered-push w h (p ∷ ps) last number (Some ops) =
-    ap (λ (i : Interval). Some (record { acc = i; last = number }))
-    (sym (fold_push with_present (nothing w h) (p ∷ ps) ops))
-
-pub gathered_none : (w h place : ℕ) → gathered w h place [] ≡ None
+pub gathered_none : (w h : ℕ) → gathered w h [] ≡ nothing w h
 unfolding gathered presents
-gathered_none w h place = refl
+gathered_none w h = refl
 
-pub gathered_more : (w h place k number : ℕ) (es : List Entry) (e : Entry) (so_far : Option Gathered) → k < length es
-    → e ≡ get_or es k e → number ≡ place + k + 1
-    → so_far ≡ gathered w h place (take k es)
-    → gathered_next w h so_far number (present_of e.event) ≡ gathered w h place (take (k + 1) es)
+pub gathered_more : (w h k : ℕ) (es : List Entry) (e : Entry) (i : Interval) → k < length es
+    → e ≡ get_or es k e → i ≡ gathered w h (take k es)
+    → gathered_next i (present_of e.event) ≡ gathered w h (take (k + 1) es)
 unfolding gathered
-gathered_more w h place k number es e so_far k_in is numbered is_so_far =
-    let ps : List (List Op) = presents (take k es) in
-    let last : ℕ = last_present 0 place (take k es) in
-    ap (λ (g : Option Gathered). gathered_next w h g number (present_of e.event)) is_so_far
-    ∙ gathered-push w h ps last number (present_of e.event)
-    ∙ ap (gathered_of w h (ps ++ cons_option (present_of e.event) []))
-    (ap (λ n. if is_some (present_of e.event) then n else last) numbered ∙ sym (last_more es place k e k_in is))
-    ∙ ap (λ qs. gathered_of w h qs (last_present 0 place (take (k + 1) es))) (sym (presents_more es k e k_in is))
+gathered_more w h k es e i k_in is so_far =
+    ap (λ j. gathered_next j (present_of e.event)) so_far
+    ∙ gathered_push (nothing w h) (presents (take k es)) (present_of e.event)
+    ∙ ap (fold with_present (nothing w h)) (sym (presents_more es k e k_in is))
 
 -- what is gathered is the dirt, the moves, the flag and the number of the presents
 abbrev interval : ℕ → ℕ → List (List Op) → Interval
 interval w h ps =
     record { area = dirt w h ps; moves = moves ps; coalesced = is_coalesced w h ps; frames = length ps }
 
-interval_is : (w h : ℕ) (ps : List (List Op)) (last : ℕ) → interval_of w h (gathered_of w h ps last) ≡ interval w h ps
-interval_is w h [] last = composes w h []
-interval_is w h (p ∷ ps) last = composes w h (p ∷ ps)
-
-gathered_is : (w h place : ℕ) (es : List Entry) (so_far : Option Gathered) → so_far ≡ gathered w h place es
-    → interval_of w h so_far ≡ interval w h (presents es)
+pub gathered_is : (w h : ℕ) (es : List Entry) → gathered w h es ≡ interval w h (presents es)
 unfolding gathered
-gathered_is w h place es so_far is = ap (interval_of w h) is ∙ interval_is w h (presents es) (last_present 0 place es)
+gathered_is w h es = composes w h (presents es)
 
-pub width-gathered : (w h place : ℕ) (es : List Entry) (so_far : Option Gathered) → so_far ≡ gathered w h place es
-    → (interval_of w h so_far).area.width ≡ w
-width-gathered w h place es so_far is = ap (λ (i : Interval). i.area.width) (gathered_is w h place es so_far is)
-    ∙ width-dirt w h (presents es)
+pub width-gathered : (w h : ℕ) (es : List Entry) (i : Interval) → i ≡ gathered w h es → i.area.width ≡ w
+width-gathered w h es i is =
+    ap (λ (j : Interval). j.area.width) (is ∙ gathered_is w h es) ∙ width-dirt w h (presents es)
 
-pub height-gathered : (w h place : ℕ) (es : List Entry) (so_far : Option Gathered) → so_far ≡ gathered w h place es
-    → (interval_of w h so_far).area.height ≡ h
-height-gathered w h place es so_far is = ap (λ (i : Interval). i.area.height) (gathered_is w h place es so_far is)
-    ∙ height-dirt w h (presents es)
+pub height-gathered : (w h : ℕ) (es : List Entry) (i : Interval) → i ≡ gathered w h es → i.area.height ≡ h
+height-gathered w h es i is =
+    ap (λ (j : Interval). j.area.height) (is ∙ gathered_is w h es) ∙ height-dirt w h (presents es)
 
-pub few_frames : (w h place k n : ℕ) (es : List Entry) (so_far : Option Gathered) → k ≤ n
-    → so_far ≡ gathered w h place (take k es) → (interval_of w h so_far).frames ≤ n
-few_frames w h place k n es so_far k_in is =
+pub few_frames : (w h k n : ℕ) (es : List Entry) (i : Interval) → k ≤ n → i ≡ gathered w h (take k es) → i.frames ≤ n
+few_frames w h k n es i k_in is =
     omega (
       arith,
-      ap (λ (i : Interval). i.frames) (gathered_is w h place (take k es) so_far is),
+      ap (λ (j : Interval). j.frames) (is ∙ gathered_is w h (take k es)),
       length-presents
           (take k es),
       length-take k es,
     )
 
--- what holds holds of an error
-pub on_err : {T E : Type 0} (r : Result T E) (n : ℕ) → 1 ≤ n → OnErr r (1 ≤ n)
-on_err (Ok x) n some = tt
-on_err (Err e) n some = some
-
--- what was gathered is of some present
-some_gathered : (w h last : ℕ) (ps : List (List Op)) (g : Gathered) → gathered_of w h ps last ≡ Some g
-    → 1 ≤ length ps
-some_gathered w h last [] g is = cc
-some_gathered w h last (p ∷ ps) g is = omega arith
-
-pub gathered_some : (w h place : ℕ) (es : List Entry) (g : Gathered) → gathered w h place es ≡ Some g
-    → 1 ≤ length (presents es)
-unfolding gathered
-gathered_some w h place es g is = some_gathered w h (last_present 0 place es) (presents es) g is
-
 -- as news
-news_made : (w h place last : ℕ) (hidden : Grid Bool) (es : List Entry) (i : Interval)
-    → last ≡ last_present 0 place es → i ≡ interval w h (presents es)
-    → news_from hidden (record { acc = i; last = last }) ≡ news_of w h place hidden es
-unfolding news_of dirt_of
-news_made w h place last hidden es i last_is is =
-    ap (λ (j : Interval). news_from hidden (record { acc = j; last = last })) is
-    ∙ ap (λ n. news_from hidden (record { acc = interval w h (presents es); last = n })) last_is
-
-made_where : (w h place : ℕ) (hidden : Grid Bool) (es : List Entry) (ps : List (List Op)) → presents es ≡ ps
-    → option_map (news_from hidden) (gathered_of w h ps (last_present 0 place es))
-    ≡ where_any ps (news_of w h place hidden es)
-made_where w h place hidden es [] is = refl
-made_where w h place hidden es (p ∷ ps) is =
-    ap (λ (n : News). Some n)
-    (news_made w h place (last_present 0 place es) hidden es (fold with_present (nothing w h) (p ∷ ps)) refl
-    (composes w h (p ∷ ps) ∙ ap (interval w h) (sym is)))
-
-pub gathered_news : (w h place : ℕ) (hidden : Grid Bool) (es : List Entry)
-    → option_map (news_from hidden) (gathered w h place es) ≡ where_any (presents es) (news_of w h place hidden es)
-unfolding gathered
-gathered_news w h place hidden es = made_where w h place hidden es (presents es) refl
+pub gathered_news : (w h last : ℕ) (hidden : Grid Bool) (es : List Entry) (i : Interval) → i ≡ gathered w h es
+    → news_from last hidden i ≡ picture_news w h last hidden es
+unfolding picture_news dirt_of
+gathered_news w h last hidden es i is = ap (λ (j : Interval). news_from last hidden j) (is ∙ gathered_is w h es)
 
 -- the presents alone are drawn
 drawn_one : (p : Grid Cell) (o : Option (List Op)) (ps : List (List Op))

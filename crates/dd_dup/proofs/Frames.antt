@@ -5,7 +5,6 @@ use Rattle.std.proofs.lemmas.Bool.{or_parts, false≢true}
 use Rattle.std.proofs.lemmas.List.{take-append-drop, take_all, take-take, drop_all, length-take}
 use Rattle.std.specs.Prelude.{Result, Ok, Err, is_some, option_map, unwrap_or}
 use Rattle.dd_log.specs.declared.answers.DupRefusal.{DupRefusal}
-use Rattle.std.specs.Option.{ok_or}
 use Rattle.dd_ops.specs.declared.operations.Op.{Op}
 use Rattle.dd_geom.proofs.GridLemmas.{grid_from_agree, value_at-grid, length-cells}
 use Rattle.dd_geom.specs.Rect.{has, source_x, source_y}
@@ -22,31 +21,34 @@ use Rattle.dd_ops.specs.declared.operations.Op.TheVariants.{Fill, Blit, Cover, S
 use Rattle.dd_ops.specs.Operations.{drawn_by, drawn}
 use Rattle.dd_acc.specs.Effects.{is_coalesced}
 use Rattle.dd_log.specs.declared.events.Entry.{Entry}
-use Rattle.dd_log.specs.History.{History, Begins, first_entries, desk, desk_mode, entries_fit, is_opening, legal, present_of, cuts_off, any_begins, any_cuts_off, any_presents}
+use Rattle.dd_log.specs.History.{History, Begins, first_entries, desk, desk_mode, entries_fit, is_opening, legal, present_of, cuts_off, any_begins, any_cuts_off, last_present}
 use Rattle.dd_log.proofs.Pictures.{goes_on, begins_black, since_start}
 use Rattle.dd_acc.specs.Rebuild.{any_has, rebuild}
 use Rattle.dd_log.specs.Picture.{picture, view, shown, shown_after, drawn_if, presents}
 use Rattle.dd_dup.specs.declared.frame.Frame.{Frame}
 use Rattle.dd_dup.specs.declared.frame.News.{News}
-use Rattle.dd_dup.specs.News.{frame, frame_from, news_of, news_since, moves_of, dirt_of, news, where_any}
-use Rattle.dd_dup.specs.Reply.{Memory, granted, given_news, is_lost, with_frame}
+use Rattle.dd_dup.specs.declared.frame.PictureNews.{PictureNews}
+use Rattle.dd_dup.specs.News.{frame, frame_from, picture_news, picture_since, news_since, moves_of, dirt_of, news}
+use Rattle.dd_dup.specs.Reply.{Memory, granted, given_news, is_lost, is_new, with_frame}
 use Rattle.dd_dup.specs.Duplicator.{Duplicator, holding, losing, HeldRebuilds, IsExactSince, FramesRebuild, FramesAreReached}
 use Rattle.dd_dup.specs.Stands.{Stands, StandsOnceOpened}
-use Rattle.dd_dup.proofs.Loss.{some_later, begins_none, opening_within, no_presents}
+use Rattle.dd_dup.proofs.Loss.{some_later, begins_none, opening_within}
 use Rattle.dd_dup.proofs.Advance.{width-shown, height-shown, rebuild-news, reached-news, exact-news}
 
-pub news-coalesced : (w h place : ℕ) (hidden : Grid Bool) (es : List Entry)
-    → (news_of w h place hidden es).coalesced ≡ is_coalesced w h (presents es)
-unfolding news_of
-news-coalesced w h place hidden es = refl
+pub news-coalesced : (w h last : ℕ) (hidden : Grid Bool) (es : List Entry)
+    → (picture_news w h last hidden es).coalesced ≡ is_coalesced w h (presents es)
+unfolding picture_news
+news-coalesced w h last hidden es = refl
 
-pub news-moves : (w h place : ℕ) (hidden : Grid Bool) (es : List Entry) → (news_of w h place hidden es).moves ≡ moves_of es
-unfolding news_of
-news-moves w h place hidden es = refl
+pub news-moves : (w h last : ℕ) (hidden : Grid Bool) (es : List Entry)
+    → (picture_news w h last hidden es).moves ≡ moves_of es
+unfolding picture_news
+news-moves w h last hidden es = refl
 
-pub news-dirt : (w h place : ℕ) (hidden : Grid Bool) (es : List Entry) → (news_of w h place hidden es).dirt ≡ dirt_of w h es
-unfolding news_of
-news-dirt w h place hidden es = refl
+pub news-dirt : (w h last : ℕ) (hidden : Grid Bool) (es : List Entry)
+    → (picture_news w h last hidden es).dirt ≡ dirt_of w h es
+unfolding picture_news
+news-dirt w h last hidden es = refl
 
 -- the desk's picture has the mode's size
 pub width-picture : (h : History) → (picture h).width ≡ (desk_mode h).width
@@ -125,6 +127,7 @@ stands_later d h later stands begins =
           ∙ ap (λ es. opens (slice_get es o)) begins.entries
           ∙ stands.opened;
       marked = omega arith;
+      pointed = omega (arith, stands.pointed);
       began = ap (λ (k : History). any_begins (drop d.memory.mark k.entries)) opened_same ∙ stands.began;
       mode = stands.mode ∙ ap desk_mode (sym opened_same);
       hidden = stands.hidden ∙ ap (λ (e : History). hidden_points (picture e)) (sym same);
@@ -150,7 +153,7 @@ hidden-black w h =
 -- a duplicator that was opened at a place, and has seen nothing yet
 abbrev pub opened_at : ℕ → ℕ → Mode → Grid ℕ → Grid Bool → Duplicator
 opened_at place mark mode s hidden = record {
-  memory = record { opened = place; mark = mark; held = None; lost = false };
+  memory = record { opened = place; mark = mark; pointer_mark = 0; held = None; lost = false };
   surface = s;
   hidden = hidden;
   mode = mode;
@@ -180,6 +183,7 @@ stands_fresh h place mark mode s hidden place_is mark_is mode_is s_is hidden_is 
     record {
       opened = opens;
       marked = omega (arith, begins.within);
+      pointed = omega arith;
       began =
           ap (λ (k : History). any_begins (drop mark k.entries)) first
           ∙ (ap (λ n. any_begins (drop n h.entries)) mark_is ∙ black_then.last);
@@ -192,14 +196,11 @@ stands_fresh h place mark mode s hidden place_is mark_is mode_is s_is hidden_is 
     }
 
 -- what was granted is what was to be given, to a duplicator that isn't lost
-granted_for : {A : Type 0} (m : Memory) (ps : List (List Op)) (given other : A)
-    → (if is_some m.held then Err InvalidCall else ok_or (where_any ps given) WaitTimeout) ≡ Ok other → given ≡ other
-granted_for m ps given other e = by_held (is_some m.held) ps e where
-  by_held : (held : Bool) (ps : List (List Op))
-      → (if held then Err InvalidCall else ok_or (where_any ps given) WaitTimeout) ≡ Ok other → given ≡ other
-  by_held true ps e = cc
-  by_held false [] e = cc
-  by_held false (p ∷ ps) e = cc
+granted_for : {A : Type 0} (held new : Bool) (given other : A)
+    → (if held then Err InvalidCall else if new then Ok given else Err WaitTimeout) ≡ Ok other → given ≡ other
+granted_for true new given other e = cc
+granted_for false true given other e = cc
+granted_for false false given other e = cc
 
 granted_of : {A : Type 0} (lost : Bool) (r : Result A DupRefusal) (other : A)
     → (if lost then Err AccessLost else r) ≡ Ok other → (lost ≡ false) × (r ≡ Ok other)
@@ -209,7 +210,7 @@ granted_of false r other e = (refl, e)
 pub granted_is : {A : Type 0} (m : Memory) (h : History) (given other : A) → granted m h given ≡ Ok other
     → given ≡ other
 granted_is m h given other e =
-    granted_for m (presents (news h m.mark)) given other (granted_of (is_lost m h) _ other e).1
+    granted_for (is_some m.held) (is_new m h) given other (granted_of (is_lost m h) _ other e).1
 
 pub granted_kept : {A : Type 0} (m : Memory) (h : History) (given other : A) → granted m h given ≡ Ok other
     → is_lost m h ≡ false
@@ -268,44 +269,43 @@ whole-picture h =
     (whole-shown (black (desk_mode h).width (desk_mode h).height) (drop (desk h).picture_start h.entries)
     (length-cells (desk_mode h).width (desk_mode h).height (λ _ _. plain 0)))
 
--- what the entries from a mark on tell is what is new since it
-pub told_news : (h : History) (m : ℕ) (mode : Mode) (es : List Entry) (n : Option News)
-    → any_begins (news h m) ≡ false → es ≡ news h m → mode ≡ desk_mode h
-    → n ≡ where_any (presents es)
-    (news_of mode.width mode.height m (hidden_points (shown (picture (first_entries m h)) es)) es)
-    → where_any (presents (news h m)) (news_since h m) ≡ n
-told_news h m mode es n none es_are mode_is n_is =
+-- what the entries from a mark on tell is what is new of the picture since it
+pub told_news : (h : History) (m last : ℕ) (mode : Mode) (es : List Entry) (n : PictureNews)
+    → any_begins (news h m) ≡ false → es ≡ news h m → mode ≡ desk_mode h → last ≡ last_present m (news h m)
+    → n ≡ picture_news mode.width mode.height last (hidden_points (shown (picture (first_entries m h)) es)) es
+    → n ≡ picture_since h m
+told_news h m last mode es n none es_are mode_is last_is n_is =
     let k = desk_mode h in
     let now : Grid Bool = hidden_points (picture h) in
-    sym
-    (n_is
-    ∙ (ap (λ (g : Grid Bool). where_any (presents es) (news_of mode.width mode.height m g es))
-    (hidden_forward h m es none es_are)
-    ∙ (ap (λ (c : Mode). where_any (presents es) (news_of c.width c.height m now es)) mode_is
-    ∙ ap (λ (xs : List Entry). where_any (presents xs) (news_of k.width k.height m now xs)) es_are)))
+    n_is
+    ∙ (ap (λ (g : Grid Bool). picture_news mode.width mode.height last g es) (hidden_forward h m es none es_are)
+    ∙ (ap (λ (c : Mode). picture_news c.width c.height last now es) mode_is
+    ∙ (ap (λ n. picture_news k.width k.height n now es) last_is
+    ∙ ap (λ (xs : List Entry). picture_news k.width k.height (last_present m (news h m)) now xs) es_are)))
 
--- what is given where there are presents, and where there is none
-pub given_where_any : {A : Type 0} (m : Memory) (h : History) (given told : A)
-    → where_any (presents (news h m.mark)) given ≡ Some told → given_news m h given ≡ Ok told
-given_where_any {A} m h given told is = ap (λ (o : Option A). ok_or o WaitTimeout) is
+-- what is given where something is new, and where nothing is
+pub given_new : {A : Type 0} (m : Memory) (h : History) (given : A) → is_new m h ≡ true → given_news m h given ≡ Ok given
+given_new m h given t = ap (λ (b : Bool). if b then Ok given else Err WaitTimeout) t
 
-pub given_none : {A : Type 0} (m : Memory) (h : History) (given : A) → any_presents (news h m.mark) ≡ false
+pub given_none : {A : Type 0} (m : Memory) (h : History) (given : A) → is_new m h ≡ false
     → given_news m h given ≡ Err WaitTimeout
-given_none m h given none =
-    ap (λ (ps : List (List Op)). ok_or (where_any ps given) WaitTimeout) (no_presents (news h m.mark) none)
+given_none m h given none = ap (λ (b : Bool). if b then Ok given else Err WaitTimeout) none
 
 -- the frame that is made of what is new
-pub news-hidden : (w h place : ℕ) (hidden : Grid Bool) (es : List Entry) → (news_of w h place hidden es).hidden ≡ hidden
-unfolding news_of
-news-hidden w h place hidden es = refl
+pub news-hidden : (w h last : ℕ) (hidden : Grid Bool) (es : List Entry)
+    → (picture_news w h last hidden es).hidden ≡ hidden
+unfolding picture_news
+news-hidden w h last hidden es = refl
 
-pub hidden_news : (h : History) (mark : ℕ) → (news_since h mark).hidden ≡ hidden_points (picture h)
-hidden_news h mark =
-    news-hidden (desk_mode h).width (desk_mode h).height mark (hidden_points (picture h)) (news h mark)
+pub hidden_news : (h : History) (mark pointer_mark : ℕ)
+    → (news_since h mark pointer_mark).picture.hidden ≡ hidden_points (picture h)
+hidden_news h mark pointer_mark =
+    news-hidden (desk_mode h).width (desk_mode h).height (last_present mark (news h mark)) (hidden_points (picture h))
+    (news h mark)
 
-pub frame_made : (h : History) (mark : ℕ) (n : News) → n ≡ news_since h mark
-    → frame_from n (any_hidden (picture h)) ≡ frame h mark
-frame_made h mark n n_is = ap (λ (m : News). frame_from m (any_hidden (picture h))) n_is
+pub frame_made : (h : History) (mark pointer_mark : ℕ) (n : News) → n ≡ news_since h mark pointer_mark
+    → frame_from n (any_hidden (picture h)) ≡ frame h mark pointer_mark
+frame_made h mark pointer_mark n n_is = ap (λ (m : News). frame_from m (any_hidden (picture h))) n_is
 
 -- a duplicator with these parts changed holds the frame of what is new
 abbrev pub changed : Duplicator → ℕ → Frame → Grid ℕ → Grid Bool → ℕ → Duplicator
@@ -317,20 +317,23 @@ changed d mark f s hidden folded = record d {
 }
 
 pub holds : (d : Duplicator) (h : History) (mark : ℕ) (f : Frame) (s : Grid ℕ) (hidden : Grid Bool) (folded : ℕ)
-    → mark ≡ length h.entries → f ≡ frame h d.memory.mark → s ≡ view h → hidden ≡ hidden_points (picture h)
+    → mark ≡ length h.entries → f ≡ frame h d.memory.mark d.memory.pointer_mark → s ≡ view h → hidden ≡ hidden_points (picture h)
     → folded ≡ d.folded + (length h.entries - d.memory.mark)
     → changed d mark f s hidden folded ≡ holding d h
 holds d h mark f s hidden folded mark_is f_is s_is hidden_is folded_is =
-    ap (λ n. changed d n f s hidden folded) mark_is
-    ∙ (ap (λ (g : Frame). changed d (length h.entries) g s hidden folded) f_is
-    ∙ (ap (λ (t : Grid ℕ). changed d (length h.entries) (frame h d.memory.mark) t hidden folded) s_is
-    ∙ (ap (λ (g : Grid Bool). changed d (length h.entries) (frame h d.memory.mark) (view h) g folded) hidden_is
-    ∙ ap (changed d (length h.entries) (frame h d.memory.mark) (view h) (hidden_points (picture h))) folded_is)))
+    let n = length h.entries in
+    let now = frame h d.memory.mark d.memory.pointer_mark in
+    ap (λ k. changed d k f s hidden folded) mark_is
+    ∙ (ap (λ (g : Frame). changed d n g s hidden folded) f_is
+    ∙ (ap (λ (t : Grid ℕ). changed d n now t hidden folded) s_is
+    ∙ (ap (λ (g : Grid Bool). changed d n now (view h) g folded) hidden_is
+    ∙ ap (changed d n now (view h) (hidden_points (picture h))) folded_is)))
 
 pub stands_holding : (d : Duplicator) (h : History) → Stands d h → d.memory.lost ≡ false → Stands (holding d h) h
 stands_holding d h stands kept = record {
   opened = stands.opened;
   marked = omega arith;
+  pointed = omega arith;
   began =
       ap any_begins
       (drop_all (length h.entries) (take d.memory.opened h.entries)
@@ -352,6 +355,7 @@ pub stands_losing : (d : Duplicator) (h : History) → Stands d h → is_lost d.
 stands_losing d h stands t = record {
   opened = stands.opened;
   marked = stands.marked;
+  pointed = stands.pointed;
   began = stands.began;
   mode = stands.mode;
   hidden = stands.hidden;
@@ -363,30 +367,33 @@ stands_losing d h stands t = record {
 
 -- the frame's dirt is where the entries of its interval drew
 pub reached : FramesAreReached
-reached h mark t none rounded x y e =
+reached h mark pointer_mark t none rounded x y e =
     let w = (desk_mode h).width in
     let k = (desk_mode h).height in
     let es = news h mark in
+    let last = last_present mark es in
     let hidden = hidden_points (picture h) in
-    reached-news w k es x y (sym (news-coalesced w k mark hidden es) ∙ rounded) ((goes_on h mark none).fit t)
-    (ap (λ rs. any_has rs x y) (sym (news-dirt w k mark hidden es)) ∙ e)
+    reached-news w k es x y (sym (news-coalesced w k last hidden es) ∙ rounded) ((goes_on h mark none).fit t)
+    (ap (λ rs. any_has rs x y) (sym (news-dirt w k last hidden es)) ∙ e)
 
 -- and exactly there, where none of it was rounded
-pub exact : (h : History) (mark : ℕ) → legal h ≡ true → any_begins (news h mark) ≡ false
-    → IsExactSince (Some (frame h mark)) h mark
-exact h mark t none kept =
+pub exact : (h : History) (mark pointer_mark : ℕ) → legal h ≡ true → any_begins (news h mark) ≡ false
+    → IsExactSince (Some (frame h mark pointer_mark)) h mark
+exact h mark pointer_mark t none kept =
     let w = (desk_mode h).width in
     let k = (desk_mode h).height in
     let es = news h mark in
+    let last = last_present mark es in
     let hidden = hidden_points (picture h) in
-    news-dirt w k mark hidden es
-    ∙ exact-news w k es (sym (news-coalesced w k mark hidden es) ∙ kept) ((goes_on h mark none).fit t)
+    news-dirt w k last hidden es
+    ∙ exact-news w k es (sym (news-coalesced w k last hidden es) ∙ kept) ((goes_on h mark none).fit t)
 
 -- a frame rebuilds what is seen at the end of its interval
 pub rebuilds : FramesRebuild
-rebuilds h mark t none =
+rebuilds h mark pointer_mark t none =
     let p : Grid Cell = picture (first_entries mark h) in
     let es = news h mark in
+    let last = last_present mark es in
     let ahead = picture_forward h mark none in
     let w = (desk_mode h).width in
     let k = (desk_mode h).height in
@@ -394,9 +401,9 @@ rebuilds h mark t none =
     let wide : p.width ≡ w = width-mark h mark none in
     let high : p.height ≡ k = height-mark h mark none in
     let fit : entries_fit w k es ≡ true = (goes_on h mark none).fit t in
-    ap (λ ms. rebuild (seen p) ms (frame h mark).dirt (view h)) (news-moves w k mark hidden es)
+    ap (λ ms. rebuild (seen p) ms (frame h mark pointer_mark).dirt (view h)) (news-moves w k last hidden es)
     ∙ (ap (λ rs. rebuild (seen p) (moves_of es) rs (view h))
-    (news-dirt w k mark hidden es
+    (news-dirt w k last hidden es
     ∙ (ap (λ n. dirt_of n k es) (sym wide) ∙ ap (λ n. dirt_of p.width n es) (sym high)))
     ∙ (ap (λ (q : Grid Cell). rebuild (seen p) (moves_of es) (dirt_of p.width p.height es) (seen q)) (sym ahead)
     ∙ (rebuild-news p es
@@ -408,5 +415,6 @@ pub rebuilds_held : (d : Duplicator) (h : History) → Stands d h → legal h �
     → any_begins (news h d.memory.mark) ≡ false
     → HeldRebuilds d.surface (holding d h).memory.held (holding d h).surface
 rebuilds_held d h stands t none =
-    ap (λ s. rebuild s (frame h d.memory.mark).moves (frame h d.memory.mark).dirt (view h)) stands.surface
-    ∙ rebuilds h d.memory.mark t none
+    let f = frame h d.memory.mark d.memory.pointer_mark in
+    ap (λ s. rebuild s f.moves f.dirt (view h)) stands.surface
+    ∙ rebuilds h d.memory.mark d.memory.pointer_mark t none

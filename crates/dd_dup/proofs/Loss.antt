@@ -1,17 +1,15 @@
 -- What the entries after an opening tell: whether its duplicator is lost, and whether a picture began.
-use Rattle.std.proofs.Common.{◌≡◌, ℕ, zero, suc, ◌+◌, ◌-◌, ◌<◌, ◌≤◌, Bool, true, false, ◌||◌, List, [], ◌∷◌, ◌++◌, length, take, drop, Option, Some, None, slice_get, refl, sym, ap, ◌∙◌, inl, inr, arith}
-use Rattle.std.specs.Prelude.{option_map, unwrap_or, is_some}
-use Rattle.std.specs.List.{list_any, cons_option}
+use Rattle.std.proofs.Common.{◌≡◌, ℕ, zero, suc, ◌+◌, ◌-◌, ◌<◌, ◌≤◌, Bool, true, false, ◌||◌, List, [], ◌∷◌, ◌++◌, length, take, drop, Option, slice_get, refl, sym, ap, ◌∙◌, inl, inr, arith}
+use Rattle.std.specs.Prelude.{option_map, unwrap_or}
+use Rattle.std.specs.List.{list_any}
 use Rattle.std.proofs.lemmas.Bool.{or_parts, or_from, cases_lt}
 use Rattle.std.proofs.lemmas.List.{take-append-drop, drop_all, drop-append-le, length-take}
 use Rattle.std.proofs.lemmas.List.Folds.{list_any-append}
-use Rattle.dd_ops.specs.declared.operations.Op.{Op}
 use Rattle.dd_log.specs.declared.events.Entry.{Entry}
 use Rattle.dd_log.specs.declared.events.Event.{Event}
 use Rattle.dd_log.specs.declared.events.Event.TheVariants.{Opened, Closed, End}
 use Rattle.dd_log.specs.declared.events.Event.TheVariants as events
-use Rattle.dd_log.specs.History.{History, opens_at, is_opening, begins_picture, cuts_off, is_present, any_begins, any_cuts_off, any_presents, present_of}
-use Rattle.dd_log.specs.Picture.{presents}
+use Rattle.dd_log.specs.History.{History, opens_at, is_opening, begins_picture, cuts_off, any_begins, any_cuts_off}
 use Rattle.dd_log.proofs.Pictures.{none_begins}
 use Rattle.dd_dup.specs.Duplicator.{Duplicator}
 use Rattle.dd_dup.specs.Stands.{Stands}
@@ -113,16 +111,3 @@ begins_none d h stands kept =
           split_at (λ (e : Entry). begins_picture e.event) m o h.entries before (omega arith)
           ∙ or_from _ _ stands.began (begins_past h o stands.opened ∙ later)
     ]
-
--- where there is no present there are no operations
-none_of : (o : Option (List Op)) → is_some o ≡ false → o ≡ None
-none_of None e = refl
-none_of (Some ops) e = cc
-
-pub no_presents : (es : List Entry) → any_presents es ≡ false → presents es ≡ []
-unfolding presents
-no_presents [] none = refl
-no_presents (e ∷ es) none =
-    let both = or_parts (is_present e.event) (any_presents es) none in
-    ap (λ (o : Option (List Op)). cons_option o (presents es)) (none_of (present_of e.event) both.0)
-    ∙ no_presents es both.1

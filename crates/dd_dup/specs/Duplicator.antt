@@ -1,22 +1,19 @@
 -- A duplicator's value, as contracts see it.
-use Rattle.std.specs.Prelude.{◌≡◌, ℕ, ◌+◌, ◌-◌, Bool, true, false, List, [], length, Option, Some, None, option_map, Result, Ok, Err}
-use Rattle.dd_geom.specs.declared.rect.Rect.{Rect}
-use Rattle.dd_geom.specs.declared.rect.Move.{Move}
+use Rattle.std.specs.Prelude.{◌≡◌, ℕ, ◌+◌, ◌-◌, Bool, true, false, if◌then◌else◌, List, length, Option, Some, None, option_map, Result, Ok, Err}
 use Rattle.dd_geom.specs.Grid.{Grid, grid}
 use Rattle.dd_grid.specs.Drawing.{hidden_points}
 use Rattle.dd_bits.specs.CanonicalList.{canonical_list}
 use Rattle.dd_modes.specs.declared.modes.Mode.{Mode}
 use Rattle.dd_acc.specs.Effects.{all_effects, any_reaches, drawn_afresh}
 use Rattle.dd_acc.specs.Rebuild.{any_has, rebuild}
-use Rattle.dd_log.specs.declared.answers.FrameInfo.{FrameInfo}
 use Rattle.dd_log.specs.declared.answers.DupRefusal.{DupRefusal}
 use Rattle.dd_log.specs.declared.answers.DupRefusal.TheVariants.{AccessLost}
 use Rattle.dd_log.specs.declared.events.Entry.{Entry}
 use Rattle.dd_log.specs.History.{History, desk_mode, first_entries, legal, any_begins}
 use Rattle.dd_log.specs.Picture.{presents, picture, view}
 use Rattle.dd_dup.specs.declared.frame.Frame.{Frame}
-use Rattle.dd_dup.specs.News.{news, frame}
-use Rattle.dd_dup.specs.Reply.{Memory, with_frame, without_frame, lost_memory}
+use Rattle.dd_dup.specs.News.{news, frame, held_moves, held_dirt}
+use Rattle.dd_dup.specs.Reply.{Memory, is_lost, with_frame, without_frame, lost_memory}
 
 -- its memory, its own surface, the points that are hidden there, the mode that it was opened in, and how many entries
 -- it has drawn
@@ -31,7 +28,7 @@ pub record Duplicator : Type 0 where
 -- desk's, and the entries from the mark on were drawn
 abbrev pub holding : Duplicator → History → Duplicator
 holding d h = record d {
-  memory = with_frame d.memory (length h.entries) (frame h d.memory.mark);
+  memory = with_frame d.memory (length h.entries) (frame h d.memory.mark d.memory.pointer_mark);
   surface = view h;
   hidden = hidden_points (picture h);
   folded = d.folded + (length h.entries - d.memory.mark);
@@ -43,6 +40,10 @@ released d = record d { memory = without_frame d.memory }
 
 abbrev pub losing : Duplicator → Duplicator
 losing d = record d { memory = lost_memory d.memory }
+
+-- after a call that only looks at the held frame: it is lost where that was found, or else as before
+abbrev pub IsLookedAt : Duplicator → Duplicator → History → Type 0
+IsLookedAt old new h = new ≡ (if is_lost old.memory h then losing old else old)
 
 -- after a refusal: it is lost where that was the cause, or else as before
 abbrev pub IsRefusedBy : DupRefusal → Duplicator → Duplicator → Type 0
@@ -56,18 +57,6 @@ IsRefused (Err cause) old new = IsRefusedBy cause old new
 -- the surface that is lent: none where no frame is held
 abbrev pub lent : Duplicator → Option (Grid ℕ)
 lent d = option_map (λ f. d.surface) d.memory.held
-
--- the parts of the held frame
-abbrev pub held_info : Option Frame → Option FrameInfo
-held_info held = option_map (λ f. f.info) held
-
-abbrev pub held_moves : Option Frame → List Move
-held_moves None = []
-held_moves (Some f) = f.moves
-
-abbrev pub held_dirt : Option Frame → List Rect
-held_dirt None = []
-held_dirt (Some f) = f.dirt
 
 -- whether the dirty points of the held frame were rounded
 abbrev pub held_coalesced : Option Frame → Bool
@@ -99,11 +88,12 @@ IsExactSince held h mark = IsExact (desk_mode h).width (desk_mode h).height held
 -- drawn in order and then its dirty points copied from what is seen at the end, is what is seen at the end.
 abbrev pub FramesRebuild : Type 0
 FramesRebuild =
-    (h : History) (mark : ℕ) → legal h ≡ true → any_begins (news h mark) ≡ false
-    → rebuild (view (first_entries mark h)) (frame h mark).moves (frame h mark).dirt (view h) ≡ view h
+    (h : History) (mark pointer_mark : ℕ) → legal h ≡ true → any_begins (news h mark) ≡ false
+    → rebuild (view (first_entries mark h)) (frame h mark pointer_mark).moves (frame h mark pointer_mark).dirt (view h)
+    ≡ view h
 
 -- and the frame's dirt is where the entries of its interval drew
 abbrev pub FramesAreReached : Type 0
 FramesAreReached =
-    (h : History) (mark : ℕ) → legal h ≡ true → any_begins (news h mark) ≡ false
-    → IsReached (Some (frame h mark)) (news h mark)
+    (h : History) (mark pointer_mark : ℕ) → legal h ≡ true → any_begins (news h mark) ≡ false
+    → IsReached (Some (frame h mark pointer_mark)) (news h mark)

@@ -5,12 +5,13 @@ use Rattle.dd_log.specs.History.{History, Begins, desk_mode, first_entries, open
 use Rattle.dd_log.specs.Picture.{picture, view}
 use Rattle.dd_dup.specs.Duplicator.{Duplicator}
 
--- The duplicator was opened in the list, and its mark lies in it. No picture began from the mark up to the opening. Its
+-- The duplicator was opened in the list, and its marks lie in it. No picture began from the mark up to the opening. Its
 -- mode is the desk's at the opening, and its surface and the hidden points are those of the desk at its mark. Where it
 -- is lost there is a cause in the list, and no frame is held. It has drawn no entry twice.
 pub record Stands (d : Duplicator) (h : History) : Type 0 where
   pub opened : opens_at h d.memory.opened ≡ true
   pub marked : d.memory.mark ≤ length h.entries
+  pub pointed : d.memory.pointer_mark ≤ length h.entries
   pub began : any_begins (drop d.memory.mark (take d.memory.opened h.entries)) ≡ false
   pub mode : d.mode ≡ desk_mode (first_entries d.memory.opened h)
   pub hidden : d.hidden ≡ hidden_points (picture (first_entries d.memory.mark h))

@@ -1,17 +1,24 @@
 //! What a duplicator answers to a call, with copies of what a frame lends.
 
-ghost use Rattle.std.specs.Prelude.{◌≡◌, IfOk, OnOk, OnErr, IsOk, IsSome};
+ghost use Rattle.std.specs.Prelude.{◌≡◌, IfOk, OnOk, OnErr, IsOk, IsSome, length};
 ghost use Rattle.dd_geom.specs.Grid.{rows};
-ghost use Rattle.dd_dup.specs.Reply.{acquire_reply, acquire_memory, acquire_answer, release_reply, release_memory, release_answer, surface_reply, desc_reply};
+ghost use Rattle.dd_pointer.specs.Shape.{info_of};
+ghost use Rattle.dd_dup.specs.News.{held_shape};
+ghost use Rattle.dd_dup.specs.Reply.{acquire_reply, acquire_memory, acquire_answer, release_reply, release_memory, release_answer, held_memory, moves_reply, dirty_reply, shape_reply, buffer_answer, shape_answer, in_buffer, held_shape_info, filled_buffer, surface_reply, desc_reply};
 ghost use Rattle.dd_dup.specs.Stands.{Stands};
 
 use crate::duplicator::Dup;
 use crate::frame::News;
 use dd_geom::{Moves, Rects};
 use dd_grid::Surface;
+use dd_io::Bytes;
 use dd_log::{Answer, DupRefusal, Log, Rows};
 use dd_ops::Colours;
+use dd_pointer::ShapeInfo;
 use std::alloc::{AllocError, Global};
+
+/// What each byte of a buffer is before a call.
+pub const FILL: u8 = 238;
 
 /// What a duplicator is asked.
 #[derive(Clone, Copy, Debug, PartialEq, Eq)]
@@ -20,6 +27,13 @@ pub enum DupCall {
     Acquire,
     /// Releases the frame (ReleaseFrame).
     Release,
+    /// Asks for the held frame's moves in a buffer of this many bytes (GetFrameMoveRects).
+    Moves { buffer: u32 },
+    /// Asks for the held frame's dirty rectangles in a buffer of this many bytes
+    /// (GetFrameDirtyRects).
+    Dirty { buffer: u32 },
+    /// Asks for the held frame's new shape in a buffer of this many bytes (GetFramePointerShape).
+    Shape { buffer: u32 },
     /// Asks for the rows of the acquired surface.
     Surface,
     /// Asks for the mode at the opening (GetDesc).
@@ -28,11 +42,11 @@ pub enum DupCall {
 
 /// The moves and the dirty rectangles of what is new, on memory of their own.
 fn lists_of(alloc: Global, news: &News) -> Result<(Moves, Rects), AllocError>
-    ensures moves { IfOk result (λ l. l.0 ≡ news.now.moves) }
-    ensures dirt { IfOk result (λ l. l.1 ≡ news.now.dirt) }
+    ensures moves { IfOk result (λ l. l.0 ≡ news.now.picture.moves) }
+    ensures dirt { IfOk result (λ l. l.1 ≡ news.now.picture.dirt) }
 {
-    let moves = Vec::from_slice(alloc, news.moves.as_slice())?;
-    let dirt = Vec::from_slice(alloc, news.dirt.as_slice())?;
+    let moves = Vec::from_slice(alloc, news.picture.moves.as_slice())?;
+    let dirt = Vec::from_slice(alloc, news.picture.dirt.as_slice())?;
     Ok((Moves::from_vec(moves), Rects::from_vec(dirt)))
 }
 
@@ -80,6 +94,112 @@ pub(crate) fn release(dup: &mut Dup, log: &Log) -> Answer
         Ok(()) => Answer::Released,
         Err(refusal) => refused(refusal),
     }
+}
+
+/// A buffer of this many bytes.
+fn buffer_of(alloc: Global, size: u32) -> Result<Vec<u8>, AllocError>
+    ensures { IfOk result (λ b. b.items ≡ filled_buffer size) }
+{
+    let mut buffer = Vec::new(alloc);
+    buffer.resize(size as usize, FILL)?;
+    Ok(buffer)
+}
+
+/// A buffer with what was put into it, or the refusal and the buffer.
+fn in_buffer_of(answer: Result<u32, DupRefusal>, buffer: Vec<u8>) -> Answer
+    ensures { result ≡ buffer_answer answer buffer.items }
+{
+    let bytes = Bytes::from_vec(buffer);
+    match answer {
+        Ok(size) => Answer::Buffer { size, bytes },
+        Err(refusal) => Answer::Refused {
+            refusal,
+            buffer: Some(bytes),
+        },
+    }
+}
+
+/// The moves of the held frame, in a buffer of this many bytes.
+pub(crate) fn moves(
+    alloc: Global,
+    dup: &mut Dup,
+    log: &Log,
+    size: u32,
+) -> Result<Answer, AllocError>
+    requires { Stands dup.old log.now }
+    ensures answer { IfOk result (λ a. a ≡ in_buffer buffer_answer (moves_reply dup.old.memory log.now (filled_buffer size))) }
+    ensures memory { OnOk result (dup.new.memory ≡ held_memory dup.old.memory log.now) }
+    ensures err { OnErr result (dup.new ≡ dup.old) }
+    ensures stands { Stands dup.new log.now }
+{
+    let mut buffer = buffer_of(alloc, size)?;
+    let answer = dup.moves(log, buffer.as_mut_slice());
+    Ok(in_buffer_of(answer, buffer))
+}
+
+/// The dirty rectangles of the held frame, in a buffer of this many bytes.
+pub(crate) fn dirty(
+    alloc: Global,
+    dup: &mut Dup,
+    log: &Log,
+    size: u32,
+) -> Result<Answer, AllocError>
+    requires { Stands dup.old log.now }
+    ensures answer { IfOk result (λ a. a ≡ in_buffer buffer_answer (dirty_reply dup.old.memory log.now (filled_buffer size))) }
+    ensures memory { OnOk result (dup.new.memory ≡ held_memory dup.old.memory log.now) }
+    ensures err { OnErr result (dup.new ≡ dup.old) }
+    ensures stands { Stands dup.new log.now }
+{
+    let mut buffer = buffer_of(alloc, size)?;
+    let answer = dup.dirty(log, buffer.as_mut_slice());
+    Ok(in_buffer_of(answer, buffer))
+}
+
+/// What is told of the held frame's new shape, where it has one.
+fn info_of_shape(dup: &Dup) -> Option<ShapeInfo>
+    ensures { result ≡ held_shape_info dup.now.memory.held }
+{
+    match dup.new_shape() {
+        None => None,
+        Some(shape) => Some(shape.info()),
+    }
+}
+
+/// A buffer with the shape that was put into it, or the refusal and the buffer.
+fn shape_in_buffer(
+    answer: Result<u32, DupRefusal>,
+    shape: Option<ShapeInfo>,
+    buffer: Vec<u8>,
+) -> Answer
+    ensures { result ≡ shape_answer shape answer buffer.items }
+{
+    let bytes = Bytes::from_vec(buffer);
+    match answer {
+        Ok(size) => Answer::ShapeBuffer { size, bytes, shape },
+        Err(refusal) => Answer::Refused {
+            refusal,
+            buffer: Some(bytes),
+        },
+    }
+}
+
+/// The new shape of the held frame, in a buffer of this many bytes.
+pub(crate) fn shape(
+    alloc: Global,
+    dup: &mut Dup,
+    log: &Log,
+    size: u32,
+) -> Result<Answer, AllocError>
+    requires { Stands dup.old log.now }
+    ensures answer { IfOk result (λ a. a ≡ in_buffer (shape_answer (held_shape_info dup.old.memory.held)) (shape_reply dup.old.memory log.now (filled_buffer size))) }
+    ensures memory { OnOk result (dup.new.memory ≡ held_memory dup.old.memory log.now) }
+    ensures err { OnErr result (dup.new ≡ dup.old) }
+    ensures stands { Stands dup.new log.now }
+{
+    let mut buffer = buffer_of(alloc, size)?;
+    let info = info_of_shape(dup);
+    let answer = dup.shape(log, buffer.as_mut_slice());
+    Ok(shape_in_buffer(answer, info, buffer))
 }
 
 /// A copy of the rows of a surface.

@@ -1,16 +1,23 @@
 //! A duplicator, which looks at the list and answers its client.
 
-ghost use Rattle.std.specs.Prelude.{◌≡◌, Ok, Err, IsTrue, IfOk, OnOk, OnErr, length, false, option_map};
+ghost use Rattle.std.specs.Prelude.{◌≡◌, ◌≤◌, Ok, Err, IsTrue, IfOk, OnOk, OnErr, length, false, option_map};
+ghost use Rattle.dd_acc.specs.declared.interval.TheConstants.{MAX_MOVES};
+ghost use Rattle.dd_coal.specs.declared.coalescing.TheConstants.{MAX_RECTS};
+ghost use Rattle.dd_pointer.specs.declared.kind.TheConstants.{MAX_BYTES};
+ghost use Rattle.dd_dup.specs.Reply.{put_answer};
+ghost use Rattle.dd_meta.specs.declared.buffer.TheConstants.{MAX_METADATA, MOVES_BUFFER, RECTS_BUFFER};
 
-use crate::calls::{DupCall, acquire, desc, release, surface};
+use crate::calls::{DupCall, acquire, desc, dirty, moves, release, shape, surface};
 use crate::forward::draw_entries;
-use crate::frame::{Frame, Hidden, News, frame_of};
-use crate::news::tell;
+use crate::frame::{Frame, Hidden, News, PictureNews, frame_of};
+use crate::news::{point, tell};
 use dd_bits::Area;
 use dd_geom::{Move, Rect};
 use dd_grid::Surface;
 use dd_log::{Answer, DupRefusal, FrameInfo, Log};
+use dd_meta::{put_bytes, put_moves, put_rects};
 use dd_modes::Mode;
+use dd_pointer::Shape;
 use std::alloc::{AllocError, Global};
 use std::marker::Model;
 
@@ -21,6 +28,7 @@ pub struct Dup {
     alloc: Global,
     opened: u64,
     mark: u64,
+    pointer_mark: u64,
     mode: Mode,
     surface: Surface,
     hidden: Hidden,
@@ -39,13 +47,23 @@ impl Model for Dup {
     ghost view = { value };
 }
 
+/// What was put into a buffer as an answer: where it is too short, more data is there.
+fn told(put: Result<u32, u32>) -> Result<u32, DupRefusal>
+    ensures { result ≡ put_answer put }
+{
+    match put {
+        Ok(size) => Ok(size),
+        Err(required) => Err(DupRefusal::MoreData { required }),
+    }
+}
+
 impl Dup {
     ghost use Rattle.dd_log.specs.declared.answers.DupRefusal.TheVariants.{AccessLost};
     ghost use Rattle.dd_log.specs.History.{desk, legal, any_begins};
     ghost use Rattle.dd_log.specs.Picture.{view};
-    ghost use Rattle.dd_dup.specs.News.{news, news_since, frame};
-    ghost use Rattle.dd_dup.specs.Reply.{fresh_memory, granted, given_news, is_lost, release_reply, reply, call_takes_memory, Answers, IsNewsOr};
-    ghost use Rattle.dd_dup.specs.Duplicator.{holding, released, lent, IsRefused, IsRefusedBy, held_moves, held_dirt, held_info, HeldRebuilds, IsReached, IsExactSince};
+    ghost use Rattle.dd_dup.specs.News.{news, news_since, frame, held_info, held_moves, held_dirt, held_shape, picture_since, shape_bytes};
+    ghost use Rattle.dd_dup.specs.Reply.{fresh_memory, granted, given_news, is_lost, is_new, held_reply, release_reply, moves_reply, dirty_reply, shape_reply, reply, call_takes_memory, Answers, IsNewsOr, IsNotShort};
+    ghost use Rattle.dd_dup.specs.Duplicator.{holding, released, lent, IsRefused, IsRefusedBy, IsLookedAt, HeldRebuilds, IsReached, IsExactSince};
     ghost use Rattle.dd_dup.specs.Stands.{Stands, StandsOnceOpened};
 
     /// A duplicator that is opened at place `at`, the list's length. It stands on each list that
@@ -63,6 +81,7 @@ impl Dup {
             alloc,
             opened: at,
             mark: log.picture_start(),
+            pointer_mark: 0,
             mode,
             surface,
             hidden,
@@ -82,27 +101,47 @@ impl Dup {
         self.lost || log.cut_off_since(self.opened)
     }
 
-    /// What is new, which a frame that is granted tells. It takes all memory that an acquire takes.
+    /// What is new of the picture.
+    fn news_of_picture(&self, log: &Log) -> Result<PictureNews, AllocError>
+        requires stands { Stands self.now log.now }
+        requires begins { any_begins (news log.now self.now.memory.mark) ≡ false }
+        ensures { IfOk result (λ n. n ≡ picture_since log.now self.now.memory.mark) }
+    {
+        let entries = log.after(self.mark);
+        let last_present = log.last_present(self.mark);
+        tell(self.alloc, log.mode(), &self.hidden, last_present, entries)
+    }
+
+    /// Whether there is a present since the mark, or the pointer or its shape was set since the
+    /// pointer mark.
+    fn has_news(&self, log: &Log) -> bool
+        ensures { result ≡ is_new self.now.memory log.now }
+    {
+        log.presented_since(self.mark) | log.pointed_since(self.pointer_mark)
+    }
+
+    /// What is new, which a frame that is granted tells. It takes all memory that an acquire takes,
+    /// and none where nothing is new.
     fn look(&self, log: &Log) -> Result<News, DupRefusal>
         requires stands { Stands self.now log.now }
         requires begins { any_begins (news log.now self.now.memory.mark) ≡ false }
-        ensures { IsNewsOr result (given_news self.now.memory log.now (news_since log.now self.now.memory.mark)) }
+        ensures { IsNewsOr result (given_news self.now.memory log.now
+            (news_since log.now self.now.memory.mark self.now.memory.pointer_mark)) }
     {
-        if !log.presented_since(self.mark) {
+        if !self.has_news(log) {
             return Err(DupRefusal::WaitTimeout);
         }
-        let entries = log.after(self.mark);
-        match tell(self.alloc, log.mode(), &self.hidden, self.mark, entries)? {
-            None => Err(DupRefusal::WaitTimeout),
-            Some(news) => Ok(news),
-        }
+        let picture = self.news_of_picture(log)?;
+        let pointer = point(log, self.pointer_mark)?;
+        Ok(News { picture, pointer })
     }
 
     /// What an acquire would tell as new, or why it is refused. It changes nothing, and takes all
     /// memory that an acquire takes; `hold` does the rest. A refusal takes none.
     pub fn next_news(&self, log: &Log) -> Result<News, DupRefusal>
         requires { Stands self.now log.now }
-        ensures { IsNewsOr result (granted self.now.memory log.now (news_since log.now self.now.memory.mark)) }
+        ensures { IsNewsOr result (granted self.now.memory log.now
+            (news_since log.now self.now.memory.mark self.now.memory.pointer_mark)) }
     {
         if self.is_lost(log) {
             return Err(DupRefusal::AccessLost);
@@ -117,8 +156,9 @@ impl Dup {
     fn take(&mut self, log: &Log, next: News) -> FrameInfo
         requires stands { Stands self.old log.now }
         requires begins { any_begins (news log.now self.old.memory.mark) ≡ false }
-        requires next { next ≡ news_since log.now self.old.memory.mark }
-        ensures info { result ≡ (frame log.now self.old.memory.mark).info }
+        requires next { next ≡ news_since log.now self.old.memory.mark self.old.memory.pointer_mark }
+        ensures info { result ≡ (frame log.now self.old.memory.mark self.old.memory.pointer_mark).info }
+        ensures short { result.meta_size ≤ MAX_METADATA }
         ensures held { self.new ≡ holding self.old log.now }
         ensures legal { IsTrue (legal log.now) }
     {
@@ -129,6 +169,7 @@ impl Dup {
         self.folded += entries.len() as u64;
         self.hidden = hidden;
         self.mark = log.len();
+        self.pointer_mark = self.mark;
         self.held = Some(frame);
         info
     }
@@ -137,8 +178,10 @@ impl Dup {
     /// frame tells. It takes no memory.
     pub fn hold(&mut self, log: &Log, next: News) -> FrameInfo
         requires stands { Stands self.old log.now }
-        requires next { granted self.old.memory log.now (news_since log.now self.old.memory.mark) ≡ Ok next }
-        ensures info { result ≡ (frame log.now self.old.memory.mark).info }
+        requires next { granted self.old.memory log.now
+            (news_since log.now self.old.memory.mark self.old.memory.pointer_mark) ≡ Ok next }
+        ensures info { result ≡ (frame log.now self.old.memory.mark self.old.memory.pointer_mark).info }
+        ensures short { result.meta_size ≤ MAX_METADATA }
         ensures held { self.new ≡ holding self.old log.now }
         ensures stands_still { Stands self.new log.now }
         ensures surface { self.new.surface ≡ view log.now }
@@ -167,13 +210,15 @@ impl Dup {
     /// Acquires a frame of what is new (AcquireNextFrame).
     ///
     /// A duplicator that is lost is AccessLost, and from then on holds no frame; a frame that is held is
-    /// InvalidCall; no present since the mark is WaitTimeout. No other refusal changes anything, nor
-    /// does want of memory.
+    /// InvalidCall; no present since the mark, and no pointer or shape since the pointer mark, is
+    /// WaitTimeout. No other refusal changes anything, nor does want of memory. A frame's metadata has
+    /// at most 1,408 bytes.
     pub fn acquire(&mut self, log: &Log) -> Result<FrameInfo, DupRefusal>
         requires { Stands self.old log.now }
         ensures answer { Answers result self.old.memory self.new.memory log.now }
         ensures refused { IsRefused result self.old self.new }
         ensures stands { Stands self.new log.now }
+        ensures short { IfOk result (λ info. info.meta_size ≤ MAX_METADATA) }
         // The surface is what is seen of the desk, and the frame rebuilds it from the one before.
         // Its dirt, where it wasn't rounded, is where something was drawn or scrolled to, and exactly
         // what all effects since the mark together draw afresh.
@@ -191,12 +236,12 @@ impl Dup {
         }
     }
 
-    /// Releases the held frame (ReleaseFrame). A duplicator that is lost is AccessLost, and from then on
-    /// holds no frame; with no frame it is InvalidCall, and nothing changes.
-    pub fn release(&mut self, log: &Log) -> Result<(), DupRefusal>
+    /// Why a call about the held frame is refused: the duplicator is lost, and from then on holds no
+    /// frame; or there is none.
+    fn check_held(&mut self, log: &Log) -> Result<(), DupRefusal>
         requires { Stands self.old log.now }
-        ensures answer { result ≡ release_reply self.old.memory log.now }
-        ensures ok { OnOk result (self.new ≡ released self.old) }
+        ensures answer { result ≡ held_reply self.old.memory log.now }
+        ensures ok { OnOk result (self.new ≡ self.old) }
         ensures refused { IsRefused result self.old self.new }
         ensures stands { Stands self.new log.now }
     {
@@ -207,8 +252,71 @@ impl Dup {
         if self.held.is_none() {
             return Err(DupRefusal::InvalidCall);
         }
+        Ok(())
+    }
+
+    /// Releases the held frame (ReleaseFrame). A duplicator that is lost is AccessLost, and from then on
+    /// holds no frame; with no frame it is InvalidCall, and nothing changes.
+    pub fn release(&mut self, log: &Log) -> Result<(), DupRefusal>
+        requires { Stands self.old log.now }
+        ensures answer { result ≡ release_reply self.old.memory log.now }
+        ensures ok { OnOk result (self.new ≡ released self.old) }
+        ensures refused { IsRefused result self.old self.new }
+        ensures stands { Stands self.new log.now }
+    {
+        self.check_held(log)?;
         self.held = None;
         Ok(())
+    }
+
+    /// Puts the bytes of the held frame's moves, 24 each, at the buffer's front, and gives their
+    /// number; the rest of the buffer stays (GetFrameMoveRects).
+    ///
+    /// A duplicator that is lost is AccessLost, and from then on holds no frame; with no frame it is
+    /// InvalidCall; a buffer that is shorter is MoreData, with the number of bytes that is required. No
+    /// refusal changes the buffer. A buffer of 384 bytes is never too short. No memory is taken.
+    pub fn moves(&mut self, log: &Log, buffer: &mut [u8]) -> Result<u32, DupRefusal>
+        requires { Stands self.old log.now }
+        ensures answer { (result, buffer.new) ≡ moves_reply self.old.memory log.now buffer.old }
+        ensures memory { IsLookedAt self.old self.new log.now }
+        ensures stands { Stands self.new log.now }
+        ensures enough { MOVES_BUFFER ≤ length buffer.old → IsNotShort result }
+    {
+        self.check_held(log)?;
+        told(put_moves(self.move_list(), buffer))
+    }
+
+    /// Puts the bytes of the held frame's dirty rectangles, 16 each, at the buffer's front, and gives
+    /// their number; the rest of the buffer stays (GetFrameDirtyRects).
+    ///
+    /// A duplicator that is lost is AccessLost, and from then on holds no frame; with no frame it is
+    /// InvalidCall; a buffer that is shorter is MoreData, with the number of bytes that is required. No
+    /// refusal changes the buffer. A buffer of 1,024 bytes is never too short. No memory is taken.
+    pub fn dirty(&mut self, log: &Log, buffer: &mut [u8]) -> Result<u32, DupRefusal>
+        requires { Stands self.old log.now }
+        ensures answer { (result, buffer.new) ≡ dirty_reply self.old.memory log.now buffer.old }
+        ensures memory { IsLookedAt self.old self.new log.now }
+        ensures stands { Stands self.new log.now }
+        ensures enough { RECTS_BUFFER ≤ length buffer.old → IsNotShort result }
+    {
+        self.check_held(log)?;
+        told(put_rects(self.dirt_list(), buffer))
+    }
+
+    /// Puts the bytes of the held frame's new shape at the buffer's front, and gives their number, 0
+    /// where there is no new shape; the rest of the buffer stays (GetFramePointerShape).
+    ///
+    /// A duplicator that is lost is AccessLost, and from then on holds no frame; with no frame it is
+    /// InvalidCall; a buffer that is shorter is MoreData, with the number of bytes that is required. No
+    /// refusal changes the buffer. No memory is taken.
+    pub fn shape(&mut self, log: &Log, buffer: &mut [u8]) -> Result<u32, DupRefusal>
+        requires { Stands self.old log.now }
+        ensures answer { (result, buffer.new) ≡ shape_reply self.old.memory log.now buffer.old }
+        ensures memory { IsLookedAt self.old self.new log.now }
+        ensures stands { Stands self.new log.now }
+    {
+        self.check_held(log)?;
+        told(put_bytes(self.shape_bytes(), buffer))
     }
 
     /// Answers a call. Want of memory changes nothing, and comes only where the call takes memory: a
@@ -225,6 +333,9 @@ impl Dup {
         match call {
             DupCall::Acquire => acquire(alloc, self, log),
             DupCall::Release => Ok(release(self, log)),
+            DupCall::Moves { buffer } => moves(alloc, self, log, buffer),
+            DupCall::Dirty { buffer } => dirty(alloc, self, log, buffer),
+            DupCall::Shape { buffer } => shape(alloc, self, log, buffer),
             DupCall::Surface => surface(alloc, self, log),
             DupCall::Desc => Ok(desc(self, log)),
         }
@@ -267,7 +378,8 @@ impl Dup {
 
     /// The moves of the held frame; none where no frame is held.
     pub fn move_list(&self) -> &[Move]
-        ensures { result.now ≡ held_moves self.now.memory.held }
+        ensures value { result.now ≡ held_moves self.now.memory.held }
+        ensures few { length result.now ≤ MAX_MOVES }
     {
         match &self.held {
             None => &[],
@@ -277,11 +389,33 @@ impl Dup {
 
     /// The dirty rectangles of the held frame; none where no frame is held.
     pub fn dirt_list(&self) -> &[Rect]
-        ensures { result.now ≡ held_dirt self.now.memory.held }
+        ensures value { result.now ≡ held_dirt self.now.memory.held }
+        ensures few { length result.now ≤ MAX_RECTS }
     {
         match &self.held {
             None => &[],
             Some(frame) => frame.dirt.as_slice(),
+        }
+    }
+
+    /// The new shape of the held frame; none where it has none, or no frame is held.
+    pub fn new_shape(&self) -> Option<&Shape>
+        ensures { option_map (λ shape. shape.now) result ≡ held_shape self.now.memory.held }
+    {
+        match &self.held {
+            None => None,
+            Some(frame) => frame.shape.as_ref(),
+        }
+    }
+
+    /// Its bytes; none where there is no new shape.
+    fn shape_bytes(&self) -> &[u8]
+        ensures value { result.now ≡ shape_bytes (held_shape self.now.memory.held) }
+        ensures few { length result.now ≤ MAX_BYTES }
+    {
+        match self.new_shape() {
+            None => &[],
+            Some(shape) => shape.bytes(),
         }
     }
 }

@@ -8,10 +8,10 @@ mod frame;
 mod laws;
 mod news;
 
-pub use calls::DupCall;
+pub use calls::{DupCall, FILL};
 pub use dd_log::{DupRefusal, FrameInfo, Pointer};
 pub use duplicator::Dup;
-pub use frame::{Frame, Hidden, News};
+pub use frame::{Frame, Hidden, News, PictureNews, PointerNews};
 pub use laws::{frames_are_reached, frames_rebuild, stands_later};
 
 #[cfg(test)]

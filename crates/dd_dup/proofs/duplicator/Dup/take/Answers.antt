@@ -10,6 +10,7 @@ use Rattle.dd_dup.specs.declared.frame.News.{News}
 use Rattle.dd_dup.specs.Dup.{value}
 use Rattle.dd_dup.specs.Duplicator.{Duplicator, holding}
 use Rattle.dd_dup.specs.News.{frame, news}
+use Rattle.dd_dup.specs.Reply.{Memory}
 use Rattle.dd_dup.specs.Stands.{Stands}
 use Rattle.dd_dup.proofs.Frames.{frame_made, hidden_news, holds, seen_forward, whole-picture, width-mark, height-mark}
 use Rattle.dd_dup.proofs.duplicator.Dup.take.Goals as goal
@@ -29,8 +30,10 @@ made : goal.returns-clause-info
 made c =
     ap (λ (f : Frame). f.info)
     (c.frame_of-frame.ensures.frame (picture c.args.log.now) (whole-picture c.args.log.now)
-    (ap (λ (n : News). n.hidden) c.requires.next ∙ hidden_news c.args.log.now c.args.self.now.memory.mark)
-    ∙ frame_made c.args.log.now c.args.self.now.memory.mark c.args.next c.requires.next)
+    (ap (λ (n : News). n.picture.hidden) c.requires.next ∙ hidden_news c.args.log.now c.args.self.now.memory.mark
+    c.args.self.now.memory.pointer_mark)
+    ∙ frame_made c.args.log.now c.args.self.now.memory.mark c.args.self.now.memory.pointer_mark c.args.next
+    c.requires.next)
 
 pub returns-clause-info : goal.returns-clause-info
 returns-clause-info c = made c
@@ -42,14 +45,13 @@ returns-clause-held c =
     let stands : Stands d h = subst (λ (e : Duplicator). Stands e h) (sym c.self.view_is) c.requires.stands in
     let none : any_begins (news h c.self.inside.mark) ≡ false =
     subst (λ (e : Duplicator). any_begins (news h e.memory.mark) ≡ false) (sym c.self.view_is) c.requires.begins in
-    let mark_is : c.args.self.now.memory.mark ≡ c.self.inside.mark =
-    ap (λ (e : Duplicator). e.memory.mark) (sym c.self.view_is) in
-    let hidden_is = ap (λ (n : News). n.hidden) c.requires.next ∙ hidden_news h c.args.self.now.memory.mark in
+    let memory_is : c.args.self.now.memory ≡ d.memory = ap (λ (e : Duplicator). e.memory) (sym c.self.view_is) in
+    let hidden_is = ap (λ (n : News). n.picture.hidden) c.requires.next ∙ hidden_news h c.args.self.now.memory.mark c.args.self.now.memory.pointer_mark in
     holds d h c.len-self-inside.result c.frame_of-frame.result.0 c.draw_entries.new.surface c.frame_of-frame.result.1 _
     c.len-self-inside.ensures.len
     (c.frame_of-frame.ensures.frame (picture h) (whole-picture h) hidden_is
-    ∙ frame_made h c.args.self.now.memory.mark c.args.next c.requires.next
-    ∙ ap (frame h) mark_is)
+    ∙ frame_made h c.args.self.now.memory.mark c.args.self.now.memory.pointer_mark c.args.next c.requires.next
+    ∙ ap (λ (m : Memory). frame h m.mark m.pointer_mark) memory_is)
     (c.draw_entries.ensures.drawn (picture (first_entries c.self.inside.mark h)) stands.surface
     ∙ seen_forward h c.self.inside.mark c.after-entries.result.now none c.after-entries.ensures.value)
     (c.frame_of-frame.ensures.hidden ∙ hidden_is)
