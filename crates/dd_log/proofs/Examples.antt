@@ -176,7 +176,8 @@ last_pointing : (last_pointed 0 pointing ≡ 3) × (last_pointed 2 (drop 2 point
 last_pointing = (refl, refl, refl)
 
 last_shapes :
-    (last_shape pointing ≡ Some (columns 2)) × (last_shape (drop 2 pointing) ≡ Some (columns 2)) × (last_shape [] ≡ None)
+    (last_shape pointing ≡ Some (columns 2)) × (last_shape (drop 2 pointing) ≡ Some (columns 2))
+    × (last_shape [] ≡ None)
 last_shapes = (refl, refl, refl)
 
 -- a shape alone is news of the pointer, and a present isn't

@@ -301,9 +301,16 @@ release_opened : (lost : Bool) (m : Memory) → (if lost then lost_memory m else
 release_opened true m = refl
 release_opened false m = refl
 
+held_opened : (lost : Bool) (m : Memory) → (if lost then lost_memory m else m).opened ≡ m.opened
+held_opened true m = refl
+held_opened false m = refl
+
 pub reply_opened : (call : DupCall) (m : Memory) (h : History) → (reply call m h).1.opened ≡ m.opened
 reply_opened asked.Acquire m h = acquire_opened (is_lost m h) (acquire_reply m h) m h
 reply_opened asked.Release m h = release_opened (is_lost m h) m
+reply_opened (asked.Moves buffer) m h = held_opened (is_lost m h) m
+reply_opened (asked.Dirty buffer) m h = held_opened (is_lost m h) m
+reply_opened (asked.Shape buffer) m h = held_opened (is_lost m h) m
 reply_opened asked.Surface m h = refl
 reply_opened asked.Desc m h = refl
 

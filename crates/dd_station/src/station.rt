@@ -224,6 +224,9 @@ impl Station {
             ClientCall::Close => Ok(self.close(client)),
             ClientCall::Acquire { .. } => self.ask(client, DupCall::Acquire),
             ClientCall::Release => self.ask(client, DupCall::Release),
+            ClientCall::Moves { buffer } => self.ask(client, DupCall::Moves { buffer }),
+            ClientCall::Dirty { buffer } => self.ask(client, DupCall::Dirty { buffer }),
+            ClientCall::Shape { buffer } => self.ask(client, DupCall::Shape { buffer }),
             ClientCall::Surface => self.ask(client, DupCall::Surface),
             ClientCall::Desc => self.ask(client, DupCall::Desc),
         }
