@@ -43,7 +43,8 @@ impl<A: Area> Model for Acc<A> {
 
     ghost Value = { Interval };
 
-    ghost view = { λ a. record { area = A.points a.area; moves = a.moves; coalesced = a.coalesced; frames = a.frames } };
+    ghost view = { λ a.
+        record { area = A.points a.area; moves = a.moves; coalesced = a.coalesced; frames = a.frames } };
 
     ghost invariant = { λ a. (a.dirt ≡ canonical_list (A.points a.area)) × IsWhole (A.points a.area) };
 }
@@ -51,7 +52,8 @@ impl<A: Area> Model for Acc<A> {
 /// Adds a scroll: a move, or a draw of its destination.
 fn add_scroll<A: Area>(area: &mut A, moves: &mut FrameMoves, mv: Move) -> Result<(), AllocError>
     requires { IsTrue (is_move_inside mv (A.points area.old).width (A.points area.old).height) }
-    ensures area { OnOk result (A.points area.new ≡ with_effect (A.points area.old) (scroll_effect (length moves.old) mv)) }
+    ensures area { OnOk result
+        (A.points area.new ≡ with_effect (A.points area.old) (scroll_effect (length moves.old) mv)) }
     ensures moves { OnOk result (moves.new ≡ moves.old ++ move_in (scroll_effect (length moves.old) mv)) }
 {
     if moves.as_slice().len() < MAX_MOVES {
@@ -65,7 +67,8 @@ fn add_scroll<A: Area>(area: &mut A, moves: &mut FrameMoves, mv: Move) -> Result
 /// Adds what one operation does.
 fn add_effect<A: Area>(area: &mut A, moves: &mut FrameMoves, op: &Op) -> Result<(), AllocError>
     requires { IsTrue (fits (A.points area.old).width (A.points area.old).height op.now) }
-    ensures area { OnOk result (A.points area.new ≡ with_effect (A.points area.old) (effect (length moves.old) op.now)) }
+    ensures area { OnOk result
+        (A.points area.new ≡ with_effect (A.points area.old) (effect (length moves.old) op.now)) }
     ensures moves { OnOk result (moves.new ≡ moves.old ++ move_in (effect (length moves.old) op.now)) }
 {
     match op {

@@ -51,9 +51,9 @@ SeenCommutes-all p =
           (λ _ _. refl) (colour_at-seen p);
       blit = λ r colours. mapped-drawn seen_cell (plain 0) p r (λ x y. plain (image_at r colours x y)) (cell_at p)
           (image_at r colours) (colour_at (seen p)) (λ _ _. refl) (colour_at-seen p);
-      cover = λ r colours. mapped-drawn seen_cell (plain 0) p r (λ x y. covered_cell (image_at r colours x y)) (cell_at p)
-          (λ _ _. 0) (colour_at (seen p)) (λ _ _. refl) (colour_at-seen p);
-      scroll = λ m. mapped-drawn seen_cell (plain 0) p m.dest (λ x y. cell_at p (source_x m x) (source_y m y)) (cell_at p)
-          (λ x y. colour_at (seen p) (source_x m x) (source_y m y)) (colour_at (seen p))
+      cover = λ r colours. mapped-drawn seen_cell (plain 0) p r (λ x y. covered_cell (image_at r colours x y))
+          (cell_at p) (λ _ _. 0) (colour_at (seen p)) (λ _ _. refl) (colour_at-seen p);
+      scroll = λ m. mapped-drawn seen_cell (plain 0) p m.dest (λ x y. cell_at p (source_x m x) (source_y m y))
+          (cell_at p) (λ x y. colour_at (seen p) (source_x m x) (source_y m y)) (colour_at (seen p))
           (λ x y. colour_at-seen p (source_x m x) (source_y m y)) (colour_at-seen p);
     }

@@ -1,9 +1,11 @@
 -- Small lists: which are legal, why an event is refused, and what their desks are and show.
-use Rattle.std.proofs.Common.{◌≡◌, ℕ, true, false, pos, List, [], ◌∷◌, Some, None, refl}
+use Rattle.std.proofs.Common.{◌≡◌, ℕ, true, false, pos, List, [], ◌∷◌, take, drop, Some, None, refl}
 use Rattle.dd_geom.specs.declared.rect.Rect.{Rect}
 use Rattle.dd_geom.specs.Grid.{rows}
 use Rattle.dd_modes.specs.declared.modes.Rotation.TheVariants.{Identity}
 use Rattle.dd_ops.specs.declared.operations.Op.TheVariants.{Fill, Cover}
+use Rattle.dd_pointer.specs.declared.kind.Kind.TheVariants.{Monochrome}
+use Rattle.dd_pointer.specs.Shape.{PointerShape}
 use Rattle.dd_log.specs.declared.answers.LogRefusal.TheVariants.{Ended, Full, BadMode, BadRect}
 use Rattle.dd_log.specs.declared.events.Spec.{Spec}
 use Rattle.dd_log.specs.declared.events.Entry.{Entry}
@@ -16,7 +18,7 @@ use Rattle.dd_log.specs.declared.events.Draw.TheVariants as drawings
 use Rattle.dd_log.specs.declared.events.TheConstants.{MAX_ACTORS, MAX_CAPACITY, MAX_PRIVILEGED}
 use Rattle.dd_log.specs.declared.desk.TheConstants.{MAX_DUPLICATORS}
 use Rattle.dd_log.specs.Desk.{desk_of, desk_after, first_desk}
-use Rattle.dd_log.specs.History.{History, begun, desk, allowed, refusal, legal, may_add, opens_at, before_end}
+use Rattle.dd_log.specs.History.{History, begun, desk, allowed, refusal, legal, may_add, opens_at, before_end, any_points, last_present, last_pointed, last_shape}
 use Rattle.dd_log.specs.Picture.{state_of, picture, view, presents}
 use Rattle.dd_log.specs.Veil.{veil, entries_coloured}
 
@@ -156,6 +158,38 @@ places_then = refl
 cut_off_then : (desk (two_modes (draws 1 (Switch true) ∷ draws 2 Disconnect ∷ draws 3 Reconnect ∷ []))).cut_off ≡ 2
 unfolding desk_of desk_after first_desk
 cut_off_then = refl
+
+-- a pointer, a shape of one column, one of two columns, and a present
+abbrev columns : ℕ → PointerShape
+columns width =
+    record { kind = Monochrome; width = width; height = 2; hot = record { x = pos 0; y = pos 0 }; bytes = 0 ∷ 0 ∷ [] }
+
+abbrev pointing : List Entry
+pointing =
+    draws 1 (drawings.Pointer (record { x = pos 1; y = pos 2 }) true)
+    ∷ draws 2 (drawings.Shape (columns 1)) ∷ draws 3 (drawings.Shape (columns 2)) ∷ draws 4 (Present []) ∷ []
+
+-- of each kind the last is told, from the front, from the last shape on, and from past the end
+last_presents : (last_present 0 pointing ≡ 4) × (last_present 2 (drop 2 pointing) ≡ 4) × (last_present 4 [] ≡ 0)
+last_presents = (refl, refl, refl)
+
+last_pointing : (last_pointed 0 pointing ≡ 3) × (last_pointed 2 (drop 2 pointing) ≡ 3) × (last_pointed 4 [] ≡ 0)
+last_pointing = (refl, refl, refl)
+
+last_shapes :
+    (last_shape pointing ≡ Some (columns 2)) × (last_shape (drop 2 pointing) ≡ Some (columns 2))
+    × (last_shape [] ≡ None)
+last_shapes = (refl, refl, refl)
+
+-- a shape alone is news of the pointer, and a present isn't
+shape_points : (any_points (drop 2 pointing) ≡ true) × (any_points (drop 3 pointing) ≡ false)
+shape_points = (refl, refl)
+
+-- a shape leaves the pointer where it is, and shown
+pointer_then : (desk (two_modes (take 3 pointing))).pointer
+    ≡ record { position = record { x = pos 1; y = pos 2 }; visible = true }
+unfolding desk_of desk_after first_desk
+pointer_then = refl
 
 -- a closing frees its slot, and the application may open again
 closed_slot : legal (two_modes (opening ∷ entry 1 2 (Closed 0) ∷ entry 1 3 (Opened 0 7) ∷ [])) ≡ true

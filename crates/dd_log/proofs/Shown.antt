@@ -49,7 +49,8 @@ unfolding entries_fit
 IsPicture-picture h is t =
     let start = (desk h).picture_start in
     let on = goes_on h start (begins_black h).last in
-    subst IsPicture (sym (since_start h)) (IsPicture-shown (black_in (desk_mode h)) (drop start h.entries) is (on.fit t))
+    subst IsPicture (sym (since_start h))
+    (IsPicture-shown (black_in (desk_mode h)) (drop start h.entries) is (on.fit t))
 
 pub legal_shows : LegalIsShown
 legal_shows h size t =

@@ -6,9 +6,10 @@ ghost use Rattle.dd_log.specs.History.{last_step};
 ghost use Rattle.dd_log.specs.declared.events.TheConstants.{MAX_CAPACITY};
 
 use crate::{Apps, Draw, Entry, Event, Log, LogRefusal, Rows, Spec};
-use dd_geom::Rect;
+use dd_geom::{Point, Rect};
 use dd_modes::{Mode, Modes, Rotation};
 use dd_ops::{Colours, Op, Ops, OpsFault};
+use dd_pointer::Shape;
 use std::alloc::Global;
 use std::test::Fail;
 
@@ -205,6 +206,46 @@ fn the_desk_follows(rt: HostRuntime) -> Result<(), Fail> {
     for (place, cut_off, presented) in [(0, true, true), (3, true, false), (4, false, false)] {
         assert_eq!(rt; log.cut_off_since(place), cut_off, "{place}");
         assert_eq!(rt; log.presented_since(place), presented, "{place}");
+    }
+    Ok(())
+}
+
+/// Left of the surface.
+const AT: Point = Point { x: -1, y: 2 };
+
+/// A list with a pointer, a shape of one column, one of two columns, and a present.
+fn pointed(alloc: Global) -> Result<Log, Fail> {
+    let mut log = empty(alloc, 9)?;
+    draw(
+        &mut log,
+        Draw::Pointer {
+            position: AT,
+            visible: true,
+        },
+    )??;
+    for width in [1, 2] {
+        let shape = Shape::read(alloc, 1, width, 2, AT, &[0, 0])?;
+        draw(&mut log, Draw::Shape(shape))??;
+    }
+    draw(&mut log, Draw::Present(Ops::new(alloc)))??;
+    Ok(log)
+}
+
+#[test]
+fn news_of_the_pointer(rt: HostRuntime) -> Result<(), Fail> {
+    let log = pointed(rt.alloc())?;
+    let pointer = log.pointer();
+    assert_eq!(rt; (pointer.position, pointer.visible), (AT, true));
+    for (place, present, pointing, width) in [
+        (0, 4, 3, Some(2)),
+        (2, 4, 3, Some(2)),
+        (4, 0, 0, None),
+    ] {
+        assert_eq!(rt; log.last_present(place), present, "{place}");
+        assert_eq!(rt; log.pointed_since(place), pointing != 0, "{place}");
+        assert_eq!(rt; log.last_pointed(place), pointing, "{place}");
+        let shape = log.shape_since(place);
+        assert_eq!(rt; shape.map(|shape| shape.info().width), width, "{place}");
     }
     Ok(())
 }

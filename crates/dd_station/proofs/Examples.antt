@@ -18,7 +18,7 @@ use Rattle.dd_log.specs.declared.events.Draw.TheVariants.{Present, Switch, Disco
 use Rattle.dd_log.specs.declared.events.Draw.TheVariants as drawings
 use Rattle.dd_log.specs.Desk.{first_desk, desk_after, desk_of}
 use Rattle.dd_log.specs.Picture.{picture, presents, state_of}
-use Rattle.dd_dup.specs.News.{dirt_of, news_of}
+use Rattle.dd_dup.specs.News.{dirt_of, picture_news}
 use Rattle.dd_station.specs.declared.steps.Step.{Step}
 use Rattle.dd_station.specs.declared.steps.Step.TheVariants.{Draw, Call}
 use Rattle.dd_station.specs.declared.steps.ClientCall.TheVariants.{Duplicate, Close, Acquire, Release}
@@ -82,7 +82,7 @@ mode_changed : Gives (1 ∷ [])
     (Opened 1 0 ∷ Entered 2 ∷ one_fill 2 (rect 1 1 3 2) ∷ Entered 3 ∷ Surface (Some red_rows)
     ∷ Refused AccessLost None ∷ Refused AccessLost None ∷ Surface None ∷ NotOpened AlreadyDuplicating ∷ Closed 4 ∷ Opened 5 0 ∷ Refused WaitTimeout None
     ∷ [])
-unfolding next run picture presents state_of first_desk desk_after desk_of run_end same_rows canonical_list tiles least_power_from power dirtied dirt is_coalesced moves dirt_of news_of
+unfolding next run picture presents state_of first_desk desk_after desk_of run_end same_rows canonical_list tiles least_power_from power dirtied dirt is_coalesced moves dirt_of picture_news
 mode_changed = refl
 
 -- a secure desktop is for privileged applications, and a disconnected session for nobody
@@ -90,14 +90,14 @@ secured : Gives (1 ∷ 9 ∷ [])
     (Draw (Switch true) ∷ Call 1 Duplicate ∷ Call 2 Duplicate ∷ Draw Disconnect ∷ Call 1 Duplicate ∷ acquire 2 ∷ [])
     (Entered 1 ∷ NotOpened AccessDenied ∷ Opened 2 0 ∷ Entered 3 ∷ NotOpened SessionDisconnected
     ∷ Refused AccessLost None ∷ [])
-unfolding next run picture presents state_of first_desk desk_after desk_of run_end same_rows canonical_list tiles least_power_from power dirtied dirt is_coalesced moves dirt_of news_of
+unfolding next run picture presents state_of first_desk desk_after desk_of run_end same_rows canonical_list tiles least_power_from power dirtied dirt is_coalesced moves dirt_of picture_news
 secured = refl
 
 -- what stood before the switch isn't told to who opens again after it
 opened_again : Gives (1 ∷ [])
     (Call 1 Duplicate ∷ Draw (Switch false) ∷ Call 1 Close ∷ Call 1 Duplicate ∷ fills (rect 0 0 1 1) ∷ acquire 1 ∷ [])
     (Opened 1 0 ∷ Entered 2 ∷ Closed 3 ∷ Opened 4 0 ∷ Entered 5 ∷ one_fill 5 (rect 0 0 1 1) ∷ [])
-unfolding next run picture presents state_of first_desk desk_after desk_of run_end same_rows canonical_list tiles least_power_from power dirtied dirt is_coalesced moves dirt_of news_of
+unfolding next run picture presents state_of first_desk desk_after desk_of run_end same_rows canonical_list tiles least_power_from power dirtied dirt is_coalesced moves dirt_of picture_news
 opened_again = refl
 
 -- two clients of one application: the second has no duplicator to close, and opens one when the first has closed its own
@@ -106,7 +106,7 @@ one_application : Gives (1 ∷ 1 ∷ [])
     ∷ Draw (drawings.Mode 1) ∷ [])
     (NotClosed closings.NoDuplicator ∷ Opened 1 0 ∷ NotOpened AlreadyDuplicating ∷ NotClosed closings.NoDuplicator ∷ Desc small ∷ Closed 2 ∷ Opened 3 0
     ∷ NoDuplicator ∷ NotDrawn BadMode ∷ [])
-unfolding next run picture presents state_of first_desk desk_after desk_of run_end same_rows canonical_list tiles least_power_from power dirtied dirt is_coalesced moves dirt_of news_of
+unfolding next run picture presents state_of first_desk desk_after desk_of run_end same_rows canonical_list tiles least_power_from power dirtied dirt is_coalesced moves dirt_of picture_news
 one_application = refl
 
 -- what another client does that enters nothing is left out: a refused opening, an acquire and a call without a duplicator

@@ -257,6 +257,9 @@ call_alike calls.Close k j s r same =
     )
 call_alike (calls.Acquire timeout) k j s r same = asking_alike k j s r asked.Acquire same
 call_alike calls.Release k j s r same = asking_alike k j s r asked.Release same
+call_alike (calls.Moves buffer) k j s r same = asking_alike k j s r (asked.Moves buffer) same
+call_alike (calls.Dirty buffer) k j s r same = asking_alike k j s r (asked.Dirty buffer) same
+call_alike (calls.Shape buffer) k j s r same = asking_alike k j s r (asked.Shape buffer) same
 call_alike calls.Surface k j s r same = asking_alike k j s r asked.Surface same
 call_alike calls.Desc k j s r same = asking_alike k j s r asked.Desc same
 
@@ -289,7 +292,8 @@ closing_skip (Ok slot) k j s r same none = absurd (one_more s.history (entry_of 
 closing_skip (Err cause) k j s r same none =
     record { list = same.list; clients = same.clients; size = same.size; own = same.own; others = same.others }
 
-asking_skip : (k j : ℕ) (s r : State) (call : DupCall) → k - 1 ≢ j - 1 → Same k s r → Same k (asking_outcome s j call).1 r
+asking_skip : (k j : ℕ) (s r : State) (call : DupCall) → k - 1 ≢ j - 1 → Same k s r
+    → Same k (asking_outcome s j call).1 r
 asking_skip k j s r call apart same =
     let u : Option Memory = (client_reply call (memory_of s j) s.history).1 in
     record {
@@ -312,6 +316,9 @@ call_skip calls.Close k j s r apart same none =
     closing_skip (closing s.history (slot_of (memory_of s j) s.history)) k j s r same none
 call_skip (calls.Acquire timeout) k j s r apart same none = asking_skip k j s r asked.Acquire apart same
 call_skip calls.Release k j s r apart same none = asking_skip k j s r asked.Release apart same
+call_skip (calls.Moves buffer) k j s r apart same none = asking_skip k j s r (asked.Moves buffer) apart same
+call_skip (calls.Dirty buffer) k j s r apart same none = asking_skip k j s r (asked.Dirty buffer) apart same
+call_skip (calls.Shape buffer) k j s r apart same none = asking_skip k j s r (asked.Shape buffer) apart same
 call_skip calls.Surface k j s r apart same none = asking_skip k j s r asked.Surface apart same
 call_skip calls.Desc k j s r apart same none = asking_skip k j s r asked.Desc apart same
 

@@ -162,8 +162,8 @@ pub kept_opened : (h : History) (actor n slot : ℕ) (clients : List ℕ) (dups 
     (d : Duplicator) → i < length dups → IsKept h clients dups n → opening h (slice_index clients i) ≡ Ok slot
     → d.memory.opened ≡ length h.entries
     → Stands d (with_entry h (record { actor = actor; step = n + 1; event = Opened slot (slice_index clients i) }))
-    → IsKept (with_entry h (record { actor = actor; step = n + 1; event = Opened slot (slice_index clients i) })) clients
-    (slice_set dups i (Some d)) (n + 1)
+    → IsKept (with_entry h (record { actor = actor; step = n + 1; event = Opened slot (slice_index clients i) }))
+    clients (slice_set dups i (Some d)) (n + 1)
 kept_opened h actor n slot clients dups i d i_in k e there stands =
     let app = slice_index clients i in
     let entry : Entry = record { actor = actor; step = n + 1; event = Opened slot app } in
@@ -301,9 +301,16 @@ release_opened : (lost : Bool) (m : Memory) → (if lost then lost_memory m else
 release_opened true m = refl
 release_opened false m = refl
 
+held_opened : (lost : Bool) (m : Memory) → (if lost then lost_memory m else m).opened ≡ m.opened
+held_opened true m = refl
+held_opened false m = refl
+
 pub reply_opened : (call : DupCall) (m : Memory) (h : History) → (reply call m h).1.opened ≡ m.opened
 reply_opened asked.Acquire m h = acquire_opened (is_lost m h) (acquire_reply m h) m h
 reply_opened asked.Release m h = release_opened (is_lost m h) m
+reply_opened (asked.Moves buffer) m h = held_opened (is_lost m h) m
+reply_opened (asked.Dirty buffer) m h = held_opened (is_lost m h) m
+reply_opened (asked.Shape buffer) m h = held_opened (is_lost m h) m
 reply_opened asked.Surface m h = refl
 reply_opened asked.Desc m h = refl
 
@@ -315,7 +322,8 @@ slot_asked None (Some x) call h app e has = cc
 slot_asked (Some d) None call h app e has = (tt, λ s. refl)
 slot_asked (Some d) (Some x) call h app e has = (
   subst (λ (place : ℕ). IsOpenFor h place app)
-      (sym (ap (λ (m : Memory). m.opened) (some_injective x.memory (reply call d.memory h).1 e) ∙ reply_opened call d.memory h)) has,
+      (sym (ap (λ (m : Memory). m.opened) (some_injective x.memory (reply call d.memory h).1 e)
+      ∙ reply_opened call d.memory h)) has,
   λ s. refl,
 ) where
   some_injective : (a b : Memory) → Some a ≡ Some b → a ≡ b

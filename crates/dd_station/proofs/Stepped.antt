@@ -25,6 +25,9 @@ stepped_call s k calls.Duplicate = stepped_opening (opening s.history (app_of s 
 stepped_call s k calls.Close = stepped_closing (closing s.history (slot_of (memory_of s k) s.history)) s k
 stepped_call s k (calls.Acquire timeout) = (refl, refl)
 stepped_call s k calls.Release = (refl, refl)
+stepped_call s k (calls.Moves buffer) = (refl, refl)
+stepped_call s k (calls.Dirty buffer) = (refl, refl)
+stepped_call s k (calls.Shape buffer) = (refl, refl)
 stepped_call s k calls.Surface = (refl, refl)
 stepped_call s k calls.Desc = (refl, refl)
 

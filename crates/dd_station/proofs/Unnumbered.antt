@@ -1,8 +1,8 @@
 -- What a list tells doesn't hang on the numbers of steps.
-use Rattle.std.proofs.Common.{◌≡◌, ℕ, ◌+◌, nat_le, Bool, true, false, ◌||◌, ◌&&◌, not, if◌then◌else◌, List, [], ◌∷◌, length, drop, map, Option, Some, None, Result, Ok, Err, refl, sym, ap, ◌∙◌, ◌==◌}
+use Rattle.std.proofs.Common.{◌≡◌, ℕ, ◌+◌, nat_le, Bool, true, false, ◌||◌, ◌&&◌, not, if◌then◌else◌, List, [], ◌∷◌, length, map, Option, Some, None, Result, Ok, Err, refl, sym, ap, ◌∙◌, ◌==◌}
 use Rattle.std.specs.Prelude.{fold, is_none, is_some, option_map, position, slice_get}
 use Rattle.std.specs.List.{list_any, cons_option}
-use Rattle.std.specs.Option.{ok_or}
+use Rattle.std.specs.Option.{option_or}
 use Rattle.std.proofs.lemmas.List.{take-map, drop-map, length-map}
 use Rattle.std.proofs.lemmas.Option.{slice_get-map}
 use Rattle.dd_geom.specs.Grid.{Grid, rows}
@@ -19,21 +19,26 @@ use Rattle.dd_log.specs.declared.answers.OpenRefusal.TheVariants as openings
 use Rattle.dd_log.specs.declared.answers.CloseRefusal.TheVariants as closings
 use Rattle.dd_log.specs.declared.answers.LogRefusal.TheVariants as refusals
 use Rattle.dd_log.specs.declared.answers.Answer.{Answer}
+use Rattle.dd_log.specs.declared.answers.Pointer.{Pointer}
 use Rattle.dd_log.specs.declared.answers.Answer.TheVariants as answers
 use Rattle.dd_log.specs.declared.desk.Desk.{Desk}
 use Rattle.dd_log.specs.declared.events.Entry.{Entry}
+use Rattle.dd_log.specs.declared.events.Event.{Event}
 use Rattle.dd_log.specs.declared.events.Draw.{Draw}
 use Rattle.dd_log.specs.Desk.{desk_after, desk_of, first_desk, is_app}
-use Rattle.dd_log.specs.History.{History, desk, desk_mode, first_entries, any_cuts_off, cuts_off, present_of, is_full, bad_draw, allowed}
+use Rattle.dd_log.specs.History.{History, desk, desk_mode, first_entries, any_points, any_presents, cuts_off, is_pointing, is_present, last_pointed, last_present, last_shape, present_of, shape_in, is_full, bad_draw, allowed}
+use Rattle.dd_log.specs.Events.{number_from}
 use Rattle.dd_log.specs.Picture.{State, state_after, state_of, first_state, picture, presents, view}
 use Rattle.dd_log.specs.Slots.{entry_slot, slot_at}
 use Rattle.dd_table.specs.Opening.{opening, closing, least_free}
 use Rattle.dd_dup.specs.declared.calls.DupCall.{DupCall}
 use Rattle.dd_dup.specs.declared.calls.DupCall.TheVariants as asked
 use Rattle.dd_dup.specs.declared.frame.Frame.{Frame}
-use Rattle.dd_dup.specs.declared.frame.News.{News}
-use Rattle.dd_dup.specs.News.{news, news_of, dirt_of, last_present, frame, frame_from, where_any}
-use Rattle.dd_dup.specs.Reply.{Memory, fresh_memory, is_lost, lost_memory, memory_after, without_frame, acquire_reply, acquire_memory, acquire_answer, release_answer, desc_reply, reply}
+use Rattle.dd_dup.specs.declared.frame.PictureNews.{PictureNews}
+use Rattle.dd_dup.specs.declared.frame.PointerNews.{PointerNews}
+use Rattle.dd_pointer.specs.Shape.{PointerShape}
+use Rattle.dd_dup.specs.News.{news, dirt_of, picture_news, picture_since, pointer_since, news_since, frame, frame_from, held_shape, shape_bytes}
+use Rattle.dd_dup.specs.Reply.{Memory, fresh_memory, is_lost, is_new, lost_memory, memory_after, with_frame, without_frame, buffer_answer, shape_answer, in_buffer, unless_refused, held_shape_info, filled_buffer, acquire_reply, acquire_memory, acquire_answer, release_answer, desc_reply, reply}
 use Rattle.dd_station.specs.Independence.{unnumbered, without_numbers}
 
 -- a desk but for the last steps
@@ -85,13 +90,23 @@ unfolding presents
 presents_same [] = refl
 presents_same (e ∷ es) = ap (cons_option (present_of e.event)) (presents_same es)
 
-cuts_same : (es : List Entry) → any_cuts_off es ≡ any_cuts_off (map unnumbered es)
-cuts_same [] = refl
-cuts_same (e ∷ es) = ap (λ b. cuts_off e.event || b) (cuts_same es)
+any_same : (is : Event → Bool) (es : List Entry)
+    → list_any (λ e. is e.event) es ≡ list_any (λ e. is e.event) (map unnumbered es)
+any_same is [] = refl
+any_same is (e ∷ es) = ap (λ b. is e.event || b) (any_same is es)
 
-last_same : (es : List Entry) (last place : ℕ) → last_present last place es ≡ last_present last place (map unnumbered es)
-last_same [] last place = refl
-last_same (e ∷ es) last place = last_same es _ (place + 1)
+last_same : (is : Event → Bool) (es : List Entry) (last place : ℕ)
+    → number_from is last place es ≡ number_from is last place (map unnumbered es)
+last_same is [] last place = refl
+last_same is (e ∷ es) last place = last_same is es _ (place + 1)
+
+abbrev shape_then : Option PointerShape → Entry → Option PointerShape
+shape_then shape e = option_or (shape_in e.event) shape
+
+shape_folds : (es : List Entry) (shape : Option PointerShape)
+    → fold shape_then shape es ≡ fold shape_then shape (map unnumbered es)
+shape_folds [] shape = refl
+shape_folds (e ∷ es) shape = shape_folds es (shape_then shape e)
 
 news_same : (h : History) (place : ℕ) → map unnumbered (news h place) ≡ news (without_numbers h) place
 news_same h place = sym (drop-map unnumbered place h.entries)
@@ -99,8 +114,9 @@ news_same h place = sym (drop-map unnumbered place h.entries)
 first_same : (h : History) (n : ℕ) → without_numbers (first_entries n h) ≡ first_entries n (without_numbers h)
 first_same h n = ap (λ es. record { spec = h.spec; entries = es }) (sym (take-map unnumbered n h.entries))
 
-abbrev news_from : ℕ → ℕ → Grid Bool → List (List Op) → ℕ → News
-news_from w h hidden ps last = record {
+-- what the entries from a mark on tell of the picture, and of the pointer
+abbrev picture_from : ℕ → ℕ → Grid Bool → List (List Op) → ℕ → PictureNews
+picture_from w h hidden ps last = record {
   accumulated = length ps;
   last_present = last;
   coalesced = is_coalesced w h ps;
@@ -109,50 +125,84 @@ news_from w h hidden ps last = record {
   hidden = hidden;
 }
 
-news_of_same : (w h place : ℕ) (hidden : Grid Bool) (es : List Entry)
-    → news_of w h place hidden es ≡ news_of w h place hidden (map unnumbered es)
-unfolding news_of dirt_of
-news_of_same w h place hidden es =
-    ap (λ ps. news_from w h hidden ps (last_present 0 place es)) (presents_same es)
-    ∙ ap (news_from w h hidden (presents (map unnumbered es))) (last_same es 0 place)
+abbrev picture_with : Mode → Grid Bool → List Entry → ℕ → PictureNews
+picture_with mode hidden es last = picture_news mode.width mode.height last hidden es
 
-abbrev frame_with : ℕ → Mode → Grid Cell → List Entry → Frame
-frame_with mark mode p es = frame_from (news_of mode.width mode.height mark (hidden_points p) es) (any_hidden p)
+picture_news_same : (w h last : ℕ) (hidden : Grid Bool) (es : List Entry)
+    → picture_news w h last hidden es ≡ picture_news w h last hidden (map unnumbered es)
+unfolding picture_news dirt_of
+picture_news_same w h last hidden es = ap (λ ps. picture_from w h hidden ps last) (presents_same es)
 
-frame_same : (h : History) (mark : ℕ) → frame h mark ≡ frame (without_numbers h) mark
-frame_same h mark =
-    ap (λ (n : News). frame_from n (any_hidden (picture h)))
-    (news_of_same (desk_mode h).width (desk_mode h).height mark (hidden_points (picture h)) (news h mark)
-    ∙ ap (news_of (desk_mode h).width (desk_mode h).height mark (hidden_points (picture h))) (news_same h mark))
-    ∙ ap (λ (m : Mode). frame_with mark m (picture h) (news (without_numbers h) mark)) (mode_same h)
-    ∙ ap (λ (p : Grid Cell). frame_with mark (desk_mode (without_numbers h)) p (news (without_numbers h) mark))
+last_from : (is : Event → Bool) (h : History) (mark : ℕ)
+    → number_from is 0 mark (news h mark) ≡ number_from is 0 mark (news (without_numbers h) mark)
+last_from is h mark =
+    last_same is (news h mark) 0 mark ∙ ap (number_from is 0 mark) (news_same h mark)
+
+picture_since_same : (h : History) (mark : ℕ) → picture_since h mark ≡ picture_since (without_numbers h) mark
+picture_since_same h mark =
+    let bare = without_numbers h in
+    let shown = λ (p : Grid Cell). hidden_points p in
+    ap (λ last. picture_with (desk_mode h) (shown (picture h)) (news h mark) last) (last_from is_present h mark)
+    ∙ picture_news_same (desk_mode h).width (desk_mode h).height (last_present mark (news bare mark))
+    (shown (picture h)) (news h mark)
+    ∙ ap (λ es. picture_with (desk_mode h) (shown (picture h)) es (last_present mark (news bare mark)))
+    (news_same h mark)
+    ∙ ap (λ mode. picture_with mode (shown (picture h)) (news bare mark) (last_present mark (news bare mark)))
+    (mode_same h)
+    ∙ ap (λ p. picture_with (desk_mode bare) (shown p) (news bare mark) (last_present mark (news bare mark)))
     (picture_same h)
 
-lost_same : (h : History) (m : Memory) → is_lost m h ≡ is_lost m (without_numbers h)
-lost_same h m =
-    ap (λ b. m.lost || b)
-    (cuts_same (drop (m.opened + 1) h.entries) ∙ ap any_cuts_off (news_same h (m.opened + 1)))
+abbrev pointer_from : ℕ → Pointer → Option PointerShape → PointerNews
+pointer_from last pointer shape = record { last_mouse = last; pointer = pointer; shape = shape }
 
-new_presents_same : (h : History) (mark : ℕ) → presents (news h mark) ≡ presents (news (without_numbers h) mark)
-new_presents_same h mark = presents_same (news h mark) ∙ ap presents (news_same h mark)
+pointer_since_same : (h : History) (mark : ℕ) → pointer_since h mark ≡ pointer_since (without_numbers h) mark
+pointer_since_same h mark =
+    let bare = without_numbers h in
+    ap (λ last. pointer_from last (desk h).pointer (last_shape (news h mark))) (last_from is_pointing h mark)
+    ∙ ap (λ (d : Desk). pointer_from (last_pointed mark (news bare mark)) d.pointer (last_shape (news h mark)))
+    (desk_same h)
+    ∙ ap (pointer_from (last_pointed mark (news bare mark)) (desk bare).pointer)
+    (shape_folds (news h mark) None ∙ ap last_shape (news_same h mark))
+
+frame_same : (h : History) (mark pointer_mark : ℕ)
+    → frame h mark pointer_mark ≡ frame (without_numbers h) mark pointer_mark
+frame_same h mark pointer_mark =
+    let bare = without_numbers h in
+    ap (λ (n : PictureNews). frame_from (record { picture = n; pointer = pointer_since h pointer_mark })
+    (any_hidden (picture h))) (picture_since_same h mark)
+    ∙ ap (λ (n : PointerNews). frame_from (record { picture = picture_since bare mark; pointer = n })
+    (any_hidden (picture h))) (pointer_since_same h pointer_mark)
+    ∙ ap (λ (p : Grid Cell). frame_from (news_since bare mark pointer_mark) (any_hidden p)) (picture_same h)
+
+-- whether one of the entries from a mark on is of a kind
+kind_since : (is : Event → Bool) (h : History) (mark : ℕ)
+    → list_any (λ e. is e.event) (news h mark) ≡ list_any (λ e. is e.event) (news (without_numbers h) mark)
+kind_since is h mark = any_same is (news h mark) ∙ ap (list_any (λ e. is e.event)) (news_same h mark)
+
+lost_same : (h : History) (m : Memory) → is_lost m h ≡ is_lost m (without_numbers h)
+lost_same h m = ap (λ b. m.lost || b) (kind_since cuts_off h (m.opened + 1))
+
+new_same : (h : History) (m : Memory) → is_new m h ≡ is_new m (without_numbers h)
+new_same h m =
+    ap (λ b. b || any_points (news h m.pointer_mark)) (kind_since is_present h m.mark)
+    ∙ ap (λ b. any_presents (news (without_numbers h) m.mark) || b) (kind_since is_pointing h m.pointer_mark)
 
 -- the replies to a duplicator's client
-abbrev acquire_with : Memory → Bool → List (List Op) → Frame → Result Frame DupRefusal
-acquire_with m lost ps f =
+abbrev acquire_with : Memory → Bool → Bool → Frame → Result Frame DupRefusal
+acquire_with m lost new f =
     if lost then Err AccessLost
-    else if is_some m.held then Err InvalidCall else ok_or (where_any ps f) WaitTimeout
+    else if is_some m.held then Err InvalidCall else if new then Ok f else Err WaitTimeout
 
 acquire_same : (h : History) (m : Memory) → acquire_reply m h ≡ acquire_reply m (without_numbers h)
 acquire_same h m =
-    ap (λ b. acquire_with m b (presents (news h m.mark)) (frame h m.mark)) (lost_same h m)
-    ∙ ap (λ ps. acquire_with m (is_lost m (without_numbers h)) ps (frame h m.mark)) (new_presents_same h m.mark)
-    ∙ ap (acquire_with m (is_lost m (without_numbers h)) (presents (news (without_numbers h) m.mark)))
-    (frame_same h m.mark)
+    let bare = without_numbers h in
+    ap (λ b. acquire_with m b (is_new m h) (frame h m.mark m.pointer_mark)) (lost_same h m)
+    ∙ ap (λ b. acquire_with m (is_lost m bare) b (frame h m.mark m.pointer_mark)) (new_same h m)
+    ∙ ap (acquire_with m (is_lost m bare) (is_new m bare)) (frame_same h m.mark m.pointer_mark)
 
 memory_same : (h : History) (m : Memory) (r : Result Frame DupRefusal)
     → memory_after m h r ≡ memory_after m (without_numbers h) r
-memory_same h m (Ok f) =
-    ap (λ n. record m { mark = n; held = Some f }) (sym (length-map h.entries unnumbered))
+memory_same h m (Ok f) = ap (λ n. with_frame m n f) (sym (length-map h.entries unnumbered))
 memory_same h m (Err cause) = refl
 
 acquired_same : (h : History) (m : Memory) → acquire_memory m h ≡ acquire_memory m (without_numbers h)
@@ -174,11 +224,26 @@ released_with m lost = (
   if lost then lost_memory m else without_frame m,
 )
 
+-- a call about the held frame that puts bytes into a buffer
+abbrev held_with : Memory → (Result ℕ DupRefusal → List ℕ → Answer) → List ℕ → List ℕ → Bool → Answer × Memory
+held_with m answer bytes buffer lost = (
+  in_buffer answer (unless_refused
+      (if lost then Err AccessLost else if is_some m.held then Ok tt else Err InvalidCall) bytes buffer),
+  if lost then lost_memory m else m,
+)
+
 pub reply_same : (call : DupCall) (m : Memory) (h : History) → reply call m h ≡ reply call m (without_numbers h)
 reply_same asked.Acquire m h =
     ap (λ (r : Result Frame DupRefusal). (acquire_answer r, acquire_memory m h)) (acquire_same h m)
     ∙ ap (λ (x : Memory). (acquire_answer (acquire_reply m (without_numbers h)), x)) (acquired_same h m)
 reply_same asked.Release m h = ap (released_with m) (lost_same h m)
+reply_same (asked.Moves buffer) m h =
+    ap (held_with m buffer_answer _ (filled_buffer buffer)) (lost_same h m)
+reply_same (asked.Dirty buffer) m h =
+    ap (held_with m buffer_answer _ (filled_buffer buffer)) (lost_same h m)
+reply_same (asked.Shape buffer) m h =
+    ap (held_with m (shape_answer (held_shape_info m.held)) (shape_bytes (held_shape m.held)) (filled_buffer buffer))
+    (lost_same h m)
 reply_same asked.Surface m h =
     ap (λ v. (answers.Surface (option_map (λ f. rows v) m.held), m)) (view_same h m.mark)
 reply_same asked.Desc m h = ap (λ (mode : Mode). (answers.Desc mode, m)) (desc_same h m)
@@ -228,7 +293,8 @@ allowed_same h drawing =
 
 pub fresh_same : (h : History) (place : ℕ) → fresh_memory h place ≡ fresh_memory (without_numbers h) place
 fresh_same h place =
-    ap (λ (d : Desk). record { opened = place; mark = d.picture_start; held = None; lost = false }) (desk_same h)
+    ap (λ (d : Desk). record { opened = place; mark = d.picture_start; pointer_mark = 0; held = None; lost = false })
+    (desk_same h)
 
 numbered_slot : (e : Option Entry) → entry_slot e ≡ entry_slot (option_map unnumbered e)
 numbered_slot None = refl

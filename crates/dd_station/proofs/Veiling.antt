@@ -152,6 +152,9 @@ call_same s k calls.Close =
     ∙ closing_alike (closing s.history own) s k
 call_same s k (calls.Acquire timeout) = asking_same s k asked.Acquire
 call_same s k calls.Release = asking_same s k asked.Release
+call_same s k (calls.Moves buffer) = asking_same s k (asked.Moves buffer)
+call_same s k (calls.Dirty buffer) = asking_same s k (asked.Dirty buffer)
+call_same s k (calls.Shape buffer) = asking_same s k (asked.Shape buffer)
 call_same s k calls.Surface = asking_same s k asked.Surface
 call_same s k calls.Desc = asking_same s k asked.Desc
 

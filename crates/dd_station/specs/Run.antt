@@ -113,6 +113,9 @@ call_outcome s k calls.Duplicate = opening_outcome (opening s.history (app_of s 
 call_outcome s k calls.Close = closing_outcome (closing s.history (slot_of (memory_of s k) s.history)) s k
 call_outcome s k (calls.Acquire timeout) = asking_outcome s k asked.Acquire
 call_outcome s k calls.Release = asking_outcome s k asked.Release
+call_outcome s k (calls.Moves buffer) = asking_outcome s k (asked.Moves buffer)
+call_outcome s k (calls.Dirty buffer) = asking_outcome s k (asked.Dirty buffer)
+call_outcome s k (calls.Shape buffer) = asking_outcome s k (asked.Shape buffer)
 call_outcome s k calls.Surface = asking_outcome s k asked.Surface
 call_outcome s k calls.Desc = asking_outcome s k asked.Desc
 
@@ -135,11 +138,14 @@ client_takes_memory s k calls.Duplicate = is_ok (opening s.history (app_of s k))
 client_takes_memory s k calls.Close = false
 client_takes_memory s k (calls.Acquire timeout) = asks_memory s k asked.Acquire
 client_takes_memory s k calls.Release = asks_memory s k asked.Release
+client_takes_memory s k (calls.Moves buffer) = asks_memory s k (asked.Moves buffer)
+client_takes_memory s k (calls.Dirty buffer) = asks_memory s k (asked.Dirty buffer)
+client_takes_memory s k (calls.Shape buffer) = asks_memory s k (asked.Shape buffer)
 client_takes_memory s k calls.Surface = asks_memory s k asked.Surface
 client_takes_memory s k calls.Desc = asks_memory s k asked.Desc
 
--- whether memory is taken for a step: for each drawing, for an opening that is granted, for a frame that is granted and
--- for rows; never for a closing or a release
+-- whether memory is taken for a step: for each drawing, for an opening that is granted, for a frame that is granted, for
+-- rows and for each buffer; never for a closing or a release
 unfoldable pub step_takes_memory : State → Step → Bool
 step_takes_memory s (steps.Draw d) = true
 step_takes_memory s (steps.Call k call) = client_takes_memory s k call

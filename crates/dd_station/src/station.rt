@@ -50,7 +50,8 @@ impl Model for Station {
 fn draw(log: &mut Log, drawing: &Draw, step: u32) -> Result<Answer, AllocError>
     requires { last_step log.old.entries 0 < step }
     ensures answer { IfOk result (λ a. a ≡ draw_answer (allowed log.old drawing.now) (length log.old.entries + 1)) }
-    ensures list { OnOk result (log.new ≡ draw_history (allowed log.old drawing.now) log.old (record { actor = 0; step = step; event = Event.Draw drawing.now })) }
+    ensures list { OnOk result (log.new ≡ draw_history (allowed log.old drawing.now) log.old
+        (record { actor = 0; step = step; event = Event.Draw drawing.now })) }
     ensures err { OnErr result (log.new ≡ log.old) }
 {
     let event = Event::Draw(drawing.copy()?);
@@ -116,8 +117,10 @@ impl Station {
         requires from { 1 ≤ client }
         requires to { client ≤ length self.old.clients }
         requires count { self.old.steps < 2 ^ 32 - 1 }
-        ensures answer { IfOk result (λ a. a ≡ (opening_outcome (opening self.old.history (app_of self.old client)) self.old client).0) }
-        ensures state { OnOk result (self.new ≡ (opening_outcome (opening self.old.history (app_of self.old client)) self.old client).1) }
+        ensures answer { IfOk result (λ a. a ≡
+            (opening_outcome (opening self.old.history (app_of self.old client)) self.old client).0) }
+        ensures state { OnOk result (self.new ≡
+            (opening_outcome (opening self.old.history (app_of self.old client)) self.old client).1) }
         ensures err { OnErr result (self.new ≡ self.old) }
         ensures wants { OnErr result (IsOk (opening self.old.history (app_of self.old client))) }
     {
@@ -153,8 +156,10 @@ impl Station {
         requires from { 1 ≤ client }
         requires to { client ≤ length self.old.clients }
         requires count { self.old.steps < 2 ^ 32 - 1 }
-        ensures answer { result ≡ (closing_outcome (closing self.old.history (slot_of (memory_of self.old client) self.old.history)) self.old client).0 }
-        ensures state { self.new ≡ (closing_outcome (closing self.old.history (slot_of (memory_of self.old client) self.old.history)) self.old client).1 }
+        ensures answer { result ≡ (closing_outcome
+            (closing self.old.history (slot_of (memory_of self.old client) self.old.history)) self.old client).0 }
+        ensures state { self.new ≡ (closing_outcome
+            (closing self.old.history (slot_of (memory_of self.old client) self.old.history)) self.old client).1 }
     {
         let index = client as usize - 1;
         let own = self.slot_of(client);
@@ -219,6 +224,9 @@ impl Station {
             ClientCall::Close => Ok(self.close(client)),
             ClientCall::Acquire { .. } => self.ask(client, DupCall::Acquire),
             ClientCall::Release => self.ask(client, DupCall::Release),
+            ClientCall::Moves { buffer } => self.ask(client, DupCall::Moves { buffer }),
+            ClientCall::Dirty { buffer } => self.ask(client, DupCall::Dirty { buffer }),
+            ClientCall::Shape { buffer } => self.ask(client, DupCall::Shape { buffer }),
             ClientCall::Surface => self.ask(client, DupCall::Surface),
             ClientCall::Desc => self.ask(client, DupCall::Desc),
         }

@@ -8,7 +8,7 @@ use std::marker::Model;
 /// The most clients of an output.
 pub const MAX_CLIENTS: usize = 16;
 
-/// What a client calls.
+/// What a client calls. Each byte of a buffer is 238 before the call.
 #[derive(Clone, Copy, Debug, PartialEq, Eq)]
 pub enum ClientCall {
     /// Opens a duplicator (the API's DuplicateOutput).
@@ -19,6 +19,13 @@ pub enum ClientCall {
     Acquire { timeout: u32 },
     /// Releases the frame (ReleaseFrame).
     Release,
+    /// Asks for the held frame's moves in a buffer of this many bytes (GetFrameMoveRects).
+    Moves { buffer: u32 },
+    /// Asks for the held frame's dirty rectangles in a buffer of this many bytes
+    /// (GetFrameDirtyRects).
+    Dirty { buffer: u32 },
+    /// Asks for the held frame's new shape in a buffer of this many bytes (GetFramePointerShape).
+    Shape { buffer: u32 },
     /// Asks for the rows of the acquired surface.
     Surface,
     /// Asks for the mode in which the duplicator was opened (GetDesc).

@@ -6,7 +6,7 @@ ghost use Rattle.dd_station.specs.Run.{IsOfClient};
 mod cases;
 
 use crate::{Answer, ClientCall, Station, Step};
-use cases::{Act, CASES, Case, Dirt, Drawing, Told, ToldFrame, Want, tooth};
+use cases::{Act, Case, Dirt, Drawing, FRAMES, LISTS, Told, ToldFrame, Want, tooth};
 use dd_geom::Rect;
 use dd_log::{Apps, Draw, Rows, Spec};
 use dd_modes::Modes;
@@ -181,10 +181,19 @@ fn holds(rt: &impl Abort, alloc: Global, case: &Case) -> Result<(), Fail> {
     Ok(())
 }
 
-#[test]
-fn the_cases_hold(rt: HostRuntime) -> Result<(), Fail> {
-    for case in CASES {
-        holds(&rt, rt.alloc(), case)?;
+fn all_hold(rt: &impl Abort, alloc: Global, cases: &[Case]) -> Result<(), Fail> {
+    for case in cases {
+        holds(rt, alloc, case)?;
     }
     Ok(())
+}
+
+#[test]
+fn lists_hold(rt: HostRuntime) -> Result<(), Fail> {
+    all_hold(&rt, rt.alloc(), LISTS)
+}
+
+#[test]
+fn frames_hold(rt: HostRuntime) -> Result<(), Fail> {
+    all_hold(&rt, rt.alloc(), FRAMES)
 }

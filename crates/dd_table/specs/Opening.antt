@@ -47,4 +47,6 @@ OpeningsFit =
 
 -- no cause refuses the entry of a granted closing
 abbrev pub ClosingsFit : Type 0
-ClosingsFit = (h : History) (o : Option ℕ) (slot : ℕ) → closing h o ≡ Ok slot → (o ≡ Some slot) × (refusal h (Closed slot) ≡ None)
+ClosingsFit =
+    (h : History) (o : Option ℕ) (slot : ℕ) → closing h o ≡ Ok slot
+    → (o ≡ Some slot) × (refusal h (Closed slot) ≡ None)

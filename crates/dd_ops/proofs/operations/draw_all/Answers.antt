@@ -12,8 +12,8 @@ draw-requires c =
 pub loop-op-preserved : goal.loop-op-preserved
 loop-op-preserved c = (
   c.draw.ensures.drawn
-      ∙ fold_more_by drawn_by c.args.p.now c.loop-op.p c.args.ops.now c.loop-op.op-index c.op-item.result c.loop-op-test.true
-      c.op-item.is c.loop-op.invariant.0,
+      ∙ fold_more_by drawn_by c.args.p.now c.loop-op.p c.args.ops.now c.loop-op.op-index c.op-item.result
+      c.loop-op-test.true c.op-item.is c.loop-op.invariant.0,
   record {
     width = c.draw.ensures.size.width ∙ c.loop-op.invariant.1.width;
     height = c.draw.ensures.size.height ∙ c.loop-op.invariant.1.height;

@@ -12,8 +12,8 @@ draw_seen-requires c =
 pub loop-op-preserved : goal.loop-op-preserved
 loop-op-preserved c = (
   c.draw_seen.ensures.drawn
-      ∙ fold_more_by seen_drawn_by c.args.s.now c.loop-op.s c.args.ops.now c.loop-op.op-index c.op-item.result c.loop-op-test.true
-      c.op-item.is c.loop-op.invariant.0,
+      ∙ fold_more_by seen_drawn_by c.args.s.now c.loop-op.s c.args.ops.now c.loop-op.op-index c.op-item.result
+      c.loop-op-test.true c.op-item.is c.loop-op.invariant.0,
   record {
     width = c.draw_seen.ensures.size.width ∙ c.loop-op.invariant.1.width;
     height = c.draw_seen.ensures.size.height ∙ c.loop-op.invariant.1.height;

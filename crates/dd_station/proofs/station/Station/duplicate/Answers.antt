@@ -1,8 +1,10 @@
-use Rattle.std.proofs.Common.{◌≡◌, ℕ, ◌+◌, ◌-◌, ◌<◌, ◌∙◌, List, Option, Some, Ok, Err, Result, length, sym, ap, subst, arith}
-use Rattle.std.specs.Prelude.{slice_set, slice_index}
+-- The answer, the state and what is kept, once an opening for client k was made or refused.
+use Rattle.std.proofs.Common.{◌≡◌, ℕ, ◌+◌, ◌-◌, ◌<◌, ◌≤◌, ◌∙◌, List, Option, Some, Ok, Err, Result, length, get_or, sym, ap, subst, arith}
+use Rattle.std.specs.Prelude.{slice_set}
 use Rattle.dd_log.specs.declared.events.Entry.{Entry}
 use Rattle.dd_log.specs.declared.events.Event.TheVariants as events
-use Rattle.dd_log.specs.declared.answers.Answer.TheVariants.{Opened}
+use Rattle.dd_log.specs.declared.answers.Answer.{Answer}
+use Rattle.dd_log.specs.declared.answers.Answer.TheVariants.{Opened, NotOpened}
 use Rattle.dd_log.specs.declared.answers.OpenRefusal.{OpenRefusal}
 use Rattle.dd_log.specs.History.{History, with_entry}
 use Rattle.dd_table.specs.Opening.{opening}
@@ -19,130 +21,90 @@ use Rattle.dd_station.proofs.station.Station.duplicate.Goals as goal
 abbrev with_memories : History → List ℕ → List (Option Memory) → ℕ → State
 with_memories h clients ms n = record { history = h; clients = clients; memories = ms; steps = n }
 
--- the value of a station after an opening that was made
+-- what an opening for a client is answered, and the state then
+abbrev outcome : State → ℕ → Answer × State
+outcome s k = opening_outcome (opening s.history (app_of s k)) s k
+
+-- the client has a place, and the application is its own
+own_app : (h : History) (clients : List ℕ) (dups : List (Option Duplicator)) (n k app : ℕ) (s : State)
+    → state h clients dups n ≡ s → 1 ≤ k → k ≤ length s.clients → app ≡ get_or clients (k - 1) app
+    → (k - 1 < length clients) × (app ≡ app_of (state h clients dups n) k)
+own_app h clients dups n k app s is from to there =
+    let same : length clients ≡ length s.clients = ap (λ (t : State). length t.clients) is in
+    let i_in : k - 1 < length clients = omega (arith, same, from, to) in
+    (i_in, app_there clients (k - 1) app i_in there)
+
+-- an opening that was made
 made : (h new : History) (clients : List ℕ) (dups : List (Option Duplicator)) (n k entry slot app : ℕ)
-    (dup : Duplicator) → app ≡ app_of (state h clients dups n) k
-    → IsAttempt (Attempt.Made entry slot dup) h new app k (n + 1)
-    → (opening h (app_of (state h clients dups n) k) ≡ Ok slot)
-    × (Opened entry slot ≡ (opening_outcome (Ok slot) (state h clients dups n) k).0)
-    × (state new clients (slice_set dups (k - 1) (Some dup))
-    (n + 1) ≡ (opening_outcome (Ok slot) (state h clients dups n) k).1)
-made h new clients dups n k entry slot app dup app_is a =
-    let entry_for : ℕ → Entry = λ x. record { actor = k; step = n + 1; event = events.Opened slot x } in (
-      ap (opening h) (sym app_is) ∙ a.0,
-      ap (λ m. Opened m slot) a.2,
-      ap (λ (g : History). state g clients (slice_set dups (k - 1) (Some dup)) (n + 1))
-          (a.1 ∙ ap (λ x. with_entry h (entry_for x)) app_is)
-          ∙ ap (λ (ms : List (Option Memory)). with_memories
-          (with_entry h (entry_for (app_of (state h clients dups n) k))) clients ms (n + 1))
-          (memories-set dups (k - 1) (Some dup) ∙ ap (λ (m : Memory). slice_set (memories dups) (k - 1) (Some m)) a.3),
+    (dup : Duplicator) (s : State) (attempt : Attempt) → state h clients dups n ≡ s → 1 ≤ k → k ≤ length s.clients
+    → app ≡ get_or clients (k - 1) app → attempt ≡ Attempt.Made entry slot dup
+    → IsAttempt attempt h new app k (n + 1)
+    → (IsKept h clients dups n → IsKept new clients (slice_set dups (k - 1) (Some dup)) (n + 1))
+    × (Opened entry slot ≡ (outcome s k).0)
+    × (state new clients (slice_set dups (k - 1) (Some dup)) (n + 1) ≡ (outcome s k).1)
+made h new clients dups n k entry slot app dup s attempt is from to there tried attempted =
+    let a = subst (λ (x : Attempt). IsAttempt x h new app k (n + 1)) tried attempted in
+    let own = own_app h clients dups n k app s is from to there in
+    let old = state h clients dups n in
+    let entry_for : ℕ → Entry = λ x. record { actor = k; step = n + 1; event = events.Opened slot x } in
+    let new_is : new ≡ with_entry h (entry_for (app_of old k)) = a.1 ∙ ap (λ x. with_entry h (entry_for x)) own.1 in
+    let granted : opening h (app_of old k) ≡ Ok slot = ap (opening h) (sym own.1) ∙ a.0 in
+    let for_result = λ (r : Result ℕ OpenRefusal). opening_outcome r old k in (
+      λ kept. let i_there : k - 1 < length dups = omega (arith, own.0, kept.places) in
+          subst (λ (g : History). IsKept g clients (slice_set dups (k - 1) (Some dup)) (n + 1)) (sym new_is)
+          (kept_opened h k n slot clients dups (k - 1) dup i_there kept granted (ap (λ (m : Memory). m.opened) a.3)
+          (subst (λ (g : History). Stands dup g) new_is a.4)),
+      ap (λ m. Opened m slot) a.2 ∙ ap (λ r. (for_result r).0) (sym granted) ∙ ap (λ t. (outcome t k).0) is,
+      ap (λ (g : History). state g clients (slice_set dups (k - 1) (Some dup)) (n + 1)) new_is
+          ∙ ap (λ (ms : List (Option Memory)). with_memories (with_entry h (entry_for (app_of old k))) clients ms (n + 1))
+          (memories-set dups (k - 1) (Some dup) ∙ ap (λ (m : Memory). slice_set (memories dups) (k - 1) (Some m)) a.3)
+          ∙ ap (λ r. (for_result r).1) (sym granted)
+          ∙ ap (λ t. (outcome t k).1) is,
     )
 
--- and after one that was refused
+-- and one that was refused
 refused : (h new : History) (clients : List ℕ) (dups : List (Option Duplicator)) (n k app : ℕ) (cause : OpenRefusal)
-    → app ≡ app_of (state h clients dups n) k
-    → IsAttempt (Attempt.Refused cause) h new app k (n + 1)
-    → (opening h (app_of (state h clients dups n) k) ≡ Err cause)
-    × (state new clients dups (n + 1) ≡ (opening_outcome (Err cause) (state h clients dups n) k).1)
-refused h new clients dups n k app cause app_is a = (
-  ap (opening h) (sym app_is) ∙ a.0,
-  ap (λ (g : History). state g clients dups (n + 1)) a.1,
-)
+    (s : State) (attempt : Attempt) → state h clients dups n ≡ s → 1 ≤ k → k ≤ length s.clients
+    → app ≡ get_or clients (k - 1) app → attempt ≡ Attempt.Refused cause → IsAttempt attempt h new app k (n + 1)
+    → (NotOpened cause ≡ (outcome s k).0) × (state new clients dups (n + 1) ≡ (outcome s k).1)
+refused h new clients dups n k app cause s attempt is from to there tried attempted =
+    let a = subst (λ (x : Attempt). IsAttempt x h new app k (n + 1)) tried attempted in
+    let own = own_app h clients dups n k app s is from to there in
+    let old = state h clients dups n in
+    let denied : opening h (app_of old k) ≡ Err cause = ap (opening h) (sym own.1) ∙ a.0 in
+    let for_result = λ (r : Result ℕ OpenRefusal). opening_outcome r old k in (
+      ap (λ r. (for_result r).0) (sym denied) ∙ ap (λ t. (outcome t k).0) is,
+      ap (λ (g : History). state g clients dups (n + 1)) a.1
+          ∙ ap (λ r. (for_result r).1) (sym denied)
+          ∙ ap (λ t. (outcome t k).1) is,
+    )
 
 pub invariant_of-self-in-Made : goal.invariant_of-self-in-Made
 invariant_of-self-in-Made c =
-    let h = c.self.inside.log in
-    let n = c.self.inside.steps in
-    let k = c.args.client in
-    let clients = c.self.inside.clients.items in
-    let dups = c.self.inside.dups.items in
-    let a = subst
-    (λ (x : Attempt). IsAttempt x h c.open.new.log c.index-app.result.now k (n + 1)) c.in-Made.is
-    c.in_ok-attempt.ensures.attempt in
-    let entry_for : ℕ → Entry = λ x. record { actor = k; step = n + 1; event = events.Opened c.in-Made.slot x } in
-    let same_clients : length clients ≡ length c.args.self.now.clients =
-    ap (λ (s : State). length s.clients) c.self.view_is in
-    let i_in : k - 1 < length clients = omega (arith, same_clients, c.requires.from, c.requires.to) in
-    let i_there : k - 1 < length dups = omega (arith, i_in, c.self.invariant.places) in
-    let app_is = app_there clients (k - 1) c.index-app.result.now i_in c.index-app.ensures in
-    let new_is : c.open.new.log ≡ with_entry h (entry_for (slice_index clients (k - 1))) =
-    a.1 ∙ ap (λ x. with_entry h (entry_for x)) app_is in
-    subst (λ (g : History). IsKept g clients (slice_set dups (k - 1) (Some c.in-Made.dup)) (n + 1)) (sym new_is)
-    (kept_opened h k n c.in-Made.slot clients dups (k - 1) c.in-Made.dup i_there c.self.invariant
-    (ap (opening h) (sym app_is) ∙ a.0) (ap (λ (m : Memory). m.opened) a.3)
-    (subst (λ (g : History). Stands c.in-Made.dup g) new_is a.4))
+    (made c.self.inside.log c.open.new.log c.self.inside.clients.items c.self.inside.dups.items c.self.inside.steps
+    c.args.client c.in-Made.entry c.in-Made.slot c.index-app.result.now c.in-Made.dup c.args.self.now _ c.self.view_is
+    c.requires.from c.requires.to c.index-app.ensures c.in-Made.is c.in_ok-attempt.ensures.attempt).0 c.self.invariant
 
 pub returns-in-Made-clause-answer : goal.returns-in-Made-clause-answer
 returns-in-Made-clause-answer c =
-    let h = c.self.inside.log in
-    let n = c.self.inside.steps in
-    let k = c.args.client in
-    let clients = c.self.inside.clients.items in
-    let dups = c.self.inside.dups.items in
-    let a = subst
-    (λ (x : Attempt). IsAttempt x h c.open.new.log c.index-app.result.now k (n + 1)) c.in-Made.is
-    c.in_ok-attempt.ensures.attempt in
-    let same_clients : length clients ≡ length c.args.self.now.clients =
-    ap (λ (s : State). length s.clients) c.self.view_is in
-    let i_in : k - 1 < length clients = omega (arith, same_clients, c.requires.from, c.requires.to) in
-    let m = made h c.open.new.log clients dups n k c.in-Made.entry c.in-Made.slot c.index-app.result.now
-    c.in-Made.dup (app_there clients (k - 1) c.index-app.result.now i_in c.index-app.ensures) a in
-    m.1
-    ∙ ap (λ (r : Result ℕ OpenRefusal). (opening_outcome r (state h clients dups n) k).0) (sym m.0)
-    ∙ ap (λ (s : State). (opening_outcome (opening s.history (app_of s k)) s k).0) c.self.view_is
+    (made c.self.inside.log c.open.new.log c.self.inside.clients.items c.self.inside.dups.items c.self.inside.steps
+    c.args.client c.in-Made.entry c.in-Made.slot c.index-app.result.now c.in-Made.dup c.args.self.now _ c.self.view_is
+    c.requires.from c.requires.to c.index-app.ensures c.in-Made.is c.in_ok-attempt.ensures.attempt).1
 
 pub returns-in-Made-clause-state : goal.returns-in-Made-clause-state
 returns-in-Made-clause-state c =
-    let h = c.self.inside.log in
-    let n = c.self.inside.steps in
-    let k = c.args.client in
-    let clients = c.self.inside.clients.items in
-    let dups = c.self.inside.dups.items in
-    let a = subst
-    (λ (x : Attempt). IsAttempt x h c.open.new.log c.index-app.result.now k (n + 1)) c.in-Made.is
-    c.in_ok-attempt.ensures.attempt in
-    let same_clients : length clients ≡ length c.args.self.now.clients =
-    ap (λ (s : State). length s.clients) c.self.view_is in
-    let i_in : k - 1 < length clients = omega (arith, same_clients, c.requires.from, c.requires.to) in
-    let m = made h c.open.new.log clients dups n k c.in-Made.entry c.in-Made.slot c.index-app.result.now
-    c.in-Made.dup (app_there clients (k - 1) c.index-app.result.now i_in c.index-app.ensures) a in
-    m.2
-    ∙ ap (λ (r : Result ℕ OpenRefusal). (opening_outcome r (state h clients dups n) k).1) (sym m.0)
-    ∙ ap (λ (s : State). (opening_outcome (opening s.history (app_of s k)) s k).1) c.self.view_is
+    (made c.self.inside.log c.open.new.log c.self.inside.clients.items c.self.inside.dups.items c.self.inside.steps
+    c.args.client c.in-Made.entry c.in-Made.slot c.index-app.result.now c.in-Made.dup c.args.self.now _ c.self.view_is
+    c.requires.from c.requires.to c.index-app.ensures c.in-Made.is c.in_ok-attempt.ensures.attempt).2
 
 pub returns-in-Refused-clause-answer : goal.returns-in-Refused-clause-answer
 returns-in-Refused-clause-answer c =
-    let h = c.self.inside.log in
-    let n = c.self.inside.steps in
-    let k = c.args.client in
-    let clients = c.self.inside.clients.items in
-    let dups = c.self.inside.dups.items in
-    let a = subst
-    (λ (x : Attempt). IsAttempt x h c.open.new.log c.index-app.result.now k (n + 1)) c.in-Refused.is
-    c.in_ok-attempt.ensures.attempt in
-    let same_clients : length clients ≡ length c.args.self.now.clients =
-    ap (λ (s : State). length s.clients) c.self.view_is in
-    let i_in : k - 1 < length clients = omega (arith, same_clients, c.requires.from, c.requires.to) in
-    let m = refused h c.open.new.log clients dups n k c.index-app.result.now c.in-Refused.cause
-    (app_there clients (k - 1) c.index-app.result.now i_in c.index-app.ensures) a in
-    ap (λ (r : Result ℕ OpenRefusal). (opening_outcome r (state h clients dups n) k).0) (sym m.0)
-    ∙ ap (λ (s : State). (opening_outcome (opening s.history (app_of s k)) s k).0) c.self.view_is
+    (refused c.self.inside.log c.open.new.log c.self.inside.clients.items c.self.inside.dups.items c.self.inside.steps
+    c.args.client c.index-app.result.now c.in-Refused.cause c.args.self.now _ c.self.view_is c.requires.from
+    c.requires.to c.index-app.ensures c.in-Refused.is c.in_ok-attempt.ensures.attempt).0
 
 pub returns-in-Refused-clause-state : goal.returns-in-Refused-clause-state
 returns-in-Refused-clause-state c =
-    let h = c.self.inside.log in
-    let n = c.self.inside.steps in
-    let k = c.args.client in
-    let clients = c.self.inside.clients.items in
-    let dups = c.self.inside.dups.items in
-    let a = subst
-    (λ (x : Attempt). IsAttempt x h c.open.new.log c.index-app.result.now k (n + 1)) c.in-Refused.is
-    c.in_ok-attempt.ensures.attempt in
-    let same_clients : length clients ≡ length c.args.self.now.clients =
-    ap (λ (s : State). length s.clients) c.self.view_is in
-    let i_in : k - 1 < length clients = omega (arith, same_clients, c.requires.from, c.requires.to) in
-    let m = refused h c.open.new.log clients dups n k c.index-app.result.now c.in-Refused.cause
-    (app_there clients (k - 1) c.index-app.result.now i_in c.index-app.ensures) a in
-    m.1
-    ∙ ap (λ (r : Result ℕ OpenRefusal). (opening_outcome r (state h clients dups n) k).1) (sym m.0)
-    ∙ ap (λ (s : State). (opening_outcome (opening s.history (app_of s k)) s k).1) c.self.view_is
+    (refused c.self.inside.log c.open.new.log c.self.inside.clients.items c.self.inside.dups.items c.self.inside.steps
+    c.args.client c.index-app.result.now c.in-Refused.cause c.args.self.now _ c.self.view_is c.requires.from
+    c.requires.to c.index-app.ensures c.in-Refused.is c.in_ok-attempt.ensures.attempt).1
