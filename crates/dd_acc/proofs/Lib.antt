@@ -5,3 +5,4 @@ pub mod Rebuilding
 pub mod Origins
 pub mod Nowhere
 pub mod Hiding
+pub mod Veiling

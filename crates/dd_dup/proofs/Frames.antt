@@ -236,7 +236,8 @@ hidden_forward h m es none is =
     ap hidden_points (ap (shown (picture (first_entries m h))) is ∙ picture_forward h m none)
 
 -- a picture that is drawn has a cell for each point
-whole-drawn_by : (p : Grid Cell) (op : Op) → length (drawn_by p op).cells ≡ (drawn_by p op).width * (drawn_by p op).height
+whole-drawn_by : (p : Grid Cell) (op : Op)
+    → length (drawn_by p op).cells ≡ (drawn_by p op).width * (drawn_by p op).height
 whole-drawn_by p (Fill rect colour) =
     length-cells p.width p.height (λ x y. if has rect x y then plain colour else cell_at p x y)
 whole-drawn_by p (Blit rect colours) =
@@ -284,7 +285,8 @@ told_news h m last mode es n none es_are mode_is last_is n_is =
     ∙ ap (λ (xs : List Entry). picture_news k.width k.height (last_present m (news h m)) now xs) es_are)))
 
 -- what is given where something is new, and where nothing is
-pub given_new : {A : Type 0} (m : Memory) (h : History) (given : A) → is_new m h ≡ true → given_news m h given ≡ Ok given
+pub given_new : {A : Type 0} (m : Memory) (h : History) (given : A) → is_new m h ≡ true
+    → given_news m h given ≡ Ok given
 given_new m h given t = ap (λ (b : Bool). if b then Ok given else Err WaitTimeout) t
 
 pub given_none : {A : Type 0} (m : Memory) (h : History) (given : A) → is_new m h ≡ false
@@ -317,7 +319,8 @@ changed d mark f s hidden folded = record d {
 }
 
 pub holds : (d : Duplicator) (h : History) (mark : ℕ) (f : Frame) (s : Grid ℕ) (hidden : Grid Bool) (folded : ℕ)
-    → mark ≡ length h.entries → f ≡ frame h d.memory.mark d.memory.pointer_mark → s ≡ view h → hidden ≡ hidden_points (picture h)
+    → mark ≡ length h.entries → f ≡ frame h d.memory.mark d.memory.pointer_mark → s ≡ view h
+    → hidden ≡ hidden_points (picture h)
     → folded ≡ d.folded + (length h.entries - d.memory.mark)
     → changed d mark f s hidden folded ≡ holding d h
 holds d h mark f s hidden folded mark_is f_is s_is hidden_is folded_is =

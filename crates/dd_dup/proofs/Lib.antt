@@ -3,3 +3,4 @@ pub mod Entries
 pub mod Advance
 pub mod Frames
 pub mod Loss
+pub mod Veiling

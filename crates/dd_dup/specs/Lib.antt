@@ -4,3 +4,4 @@ pub mod Duplicator
 pub mod Stands
 pub mod Dup
 pub mod Walk
+pub mod Veil

@@ -127,7 +127,8 @@ pub(crate) fn moves(
     size: u32,
 ) -> Result<Answer, AllocError>
     requires { Stands dup.old log.now }
-    ensures answer { IfOk result (λ a. a ≡ in_buffer buffer_answer (moves_reply dup.old.memory log.now (filled_buffer size))) }
+    ensures answer { IfOk result (λ a. a
+        ≡ in_buffer buffer_answer (moves_reply dup.old.memory log.now (filled_buffer size))) }
     ensures memory { OnOk result (dup.new.memory ≡ held_memory dup.old.memory log.now) }
     ensures err { OnErr result (dup.new ≡ dup.old) }
     ensures stands { Stands dup.new log.now }
@@ -145,7 +146,8 @@ pub(crate) fn dirty(
     size: u32,
 ) -> Result<Answer, AllocError>
     requires { Stands dup.old log.now }
-    ensures answer { IfOk result (λ a. a ≡ in_buffer buffer_answer (dirty_reply dup.old.memory log.now (filled_buffer size))) }
+    ensures answer { IfOk result (λ a. a
+        ≡ in_buffer buffer_answer (dirty_reply dup.old.memory log.now (filled_buffer size))) }
     ensures memory { OnOk result (dup.new.memory ≡ held_memory dup.old.memory log.now) }
     ensures err { OnErr result (dup.new ≡ dup.old) }
     ensures stands { Stands dup.new log.now }
@@ -191,7 +193,8 @@ pub(crate) fn shape(
     size: u32,
 ) -> Result<Answer, AllocError>
     requires { Stands dup.old log.now }
-    ensures answer { IfOk result (λ a. a ≡ in_buffer (shape_answer (held_shape_info dup.old.memory.held)) (shape_reply dup.old.memory log.now (filled_buffer size))) }
+    ensures answer { IfOk result (λ a. a ≡ in_buffer (shape_answer (held_shape_info dup.old.memory.held))
+        (shape_reply dup.old.memory log.now (filled_buffer size))) }
     ensures memory { OnOk result (dup.new.memory ≡ held_memory dup.old.memory log.now) }
     ensures err { OnErr result (dup.new ≡ dup.old) }
     ensures stands { Stands dup.new log.now }

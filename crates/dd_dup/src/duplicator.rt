@@ -65,6 +65,7 @@ impl Dup {
     ghost use Rattle.dd_dup.specs.Reply.{fresh_memory, granted, given_news, is_lost, is_new, held_reply, release_reply, moves_reply, dirty_reply, shape_reply, reply, call_takes_memory, Answers, IsNewsOr, IsNotShort};
     ghost use Rattle.dd_dup.specs.Duplicator.{holding, released, lent, IsRefused, IsRefusedBy, IsLookedAt, HeldRebuilds, IsReached, IsExactSince};
     ghost use Rattle.dd_dup.specs.Stands.{Stands, StandsOnceOpened};
+    ghost use Rattle.dd_dup.specs.Veil.{HoldsVeil, LendsVeil};
 
     /// A duplicator that is opened at place `at`, the list's length. It stands on each list that
     /// begins with this one and has its opening there.
@@ -188,6 +189,7 @@ impl Dup {
         ensures rebuilt { HeldRebuilds self.old.surface self.new.memory.held self.new.surface }
         ensures reached { IsReached self.new.memory.held (news log.now self.old.memory.mark) }
         ensures honest { IsExactSince self.new.memory.held log.now self.old.memory.mark }
+        ensures veiled { HoldsVeil self.old self.new log.now }
     {
         self.take(log, next)
     }
@@ -226,6 +228,8 @@ impl Dup {
         ensures rebuilt { OnOk result (HeldRebuilds self.old.surface self.new.memory.held self.new.surface) }
         ensures reached { OnOk result (IsReached self.new.memory.held (news log.now self.old.memory.mark)) }
         ensures honest { OnOk result (IsExactSince self.new.memory.held log.now self.old.memory.mark) }
+        // Nothing of what covers hide is in them: they are the frame and the surface of the veil.
+        ensures veiled { OnOk result (HoldsVeil self.old self.new log.now) }
     {
         match self.next_news(log) {
             Ok(next) => Ok(self.hold(log, next)),
@@ -356,14 +360,22 @@ impl Dup {
         self.mode
     }
 
-    /// The acquired surface; none where no frame is held.
-    pub fn surface(&self) -> Option<&Surface>
+    /// The surface, where a frame is held.
+    fn lent_surface(&self) -> Option<&Surface>
         ensures { option_map (λ s. s.now) result ≡ lent self.now }
     {
         match &self.held {
             None => None,
             Some(_) => Some(&self.surface),
         }
+    }
+
+    /// The acquired surface; none where no frame is held. Nothing of what covers hide is in it.
+    pub fn surface(&self) -> Option<&Surface>
+        ensures value { option_map (λ s. s.now) result ≡ lent self.now }
+        ensures veiled { LendsVeil (option_map (λ s. s.now) result) self.now }
+    {
+        self.lent_surface()
     }
 
     /// What is told of the held frame.

@@ -2,6 +2,7 @@
 
 ghost use Rattle.dd_dup.specs.Stands.{StandsLater};
 ghost use Rattle.dd_dup.specs.Duplicator.{FramesRebuild, FramesAreReached};
+ghost use Rattle.dd_dup.specs.Veil.{HiddenContent};
 
 /// A duplicator that stands on a list stands on each list that begins with it.
 pub fn stands_later()
@@ -18,4 +19,10 @@ pub fn frames_rebuild()
 /// to.
 pub fn frames_are_reached()
     ensures { FramesAreReached }
+{}
+
+/// Nothing of what covers hide reaches an answer: each call is answered as on the list in which they
+/// hide black.
+pub fn hidden_content()
+    ensures { HiddenContent }
 {}

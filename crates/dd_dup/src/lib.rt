@@ -12,7 +12,7 @@ pub use calls::{DupCall, FILL};
 pub use dd_log::{DupRefusal, FrameInfo, Pointer};
 pub use duplicator::Dup;
 pub use frame::{Frame, Hidden, News, PictureNews, PointerNews};
-pub use laws::{frames_are_reached, frames_rebuild, stands_later};
+pub use laws::{frames_are_reached, frames_rebuild, hidden_content, stands_later};
 
 #[cfg(test)]
 mod tests;

@@ -82,7 +82,8 @@ pub(crate) fn tell(
     requires height { hidden.now.height ≡ mode.height }
     requires few { length entries.now ≤ MAX_CAPACITY }
     ensures { (p : Grid Cell) → hidden.now ≡ hidden_points p
-        → IfOk result (λ n. n ≡ picture_news mode.width mode.height last_present (hidden_points (shown p entries.now)) entries.now) }
+        → IfOk result (λ n. n ≡ picture_news mode.width mode.height last_present
+        (hidden_points (shown p entries.now)) entries.now) }
 {
     let acc = gather(alloc, mode, entries)?;
     let after = hidden_at_end(hidden, entries)?;

@@ -8,11 +8,12 @@ ghost use Rattle.dd_log.specs.declared.events.TheConstants.{MAX_CAPACITY};
 ghost use Rattle.dd_log.specs.History.{Begins, last_step};
 ghost use Rattle.dd_dup.specs.Stands.{Stands};
 
-use crate::{Dup, DupCall, DupRefusal, frames_are_reached, frames_rebuild, stands_later};
-use dd_geom::Rect;
+use crate::{Dup, DupCall, DupRefusal, FILL, frames_are_reached, frames_rebuild, stands_later};
+use dd_geom::{Point, Rect};
 use dd_log::{Answer, Apps, Draw, Entry, Event, Log, Spec};
 use dd_modes::{Mode, Modes, Rotation};
 use dd_ops::{Op, Ops};
+use dd_pointer::Shape;
 use std::alloc::Global;
 use std::test::Fail;
 
@@ -96,6 +97,45 @@ fn presented(alloc: Global) -> Result<(Log, Dup), Fail>
     Ok((log, dup))
 }
 
+/// The bytes of a shape of two masks, each of 2 by 2 pixels.
+const MASKS: [u8; 4] = [0xc0, 0, 0x80, 0x80];
+
+/// Appends that shape.
+fn shape(alloc: Global, log: &mut Log, step: u32) -> Result<(), Fail>
+    requires { last_step log.old.entries 0 < step }
+    ensures { OnOk result (Begins log.old log.new) }
+{
+    let shape = Shape::read(alloc, 1, 2, 4, Point { x: 0, y: 0 }, &MASKS)?;
+    log.append(Entry {
+        actor: 0,
+        step,
+        event: Event::Draw(Draw::Shape(shape)),
+    })?;
+    Ok(())
+}
+
+/// A list with an opening, a present and a shape, and the duplicator that was opened.
+fn shaped(alloc: Global) -> Result<(Log, Dup), Fail>
+    ensures { IfOk result (λ r. Stands r.1 r.0) }
+{
+    let (mut log, dup) = opened(alloc, MODE, 9)?;
+    present(alloc, &mut log, 1, DRAWN)?;
+    shape(alloc, &mut log, 2)?;
+    Ok((log, dup))
+}
+
+#[test]
+fn buffers_are_filled(rt: HostRuntime) -> Result<(), Fail> {
+    let (log, mut dup) = shaped(rt.alloc())?;
+    dup.acquire(&log)?;
+    let mut buffer = [FILL; 16];
+    assert_eq!(rt; dup.dirty(&log, &mut buffer), Ok(16));
+    assert_eq!(rt; dup.moves(&log, &mut buffer), Ok(0));
+    assert_eq!(rt; dup.shape(&log, &mut buffer), Ok(4));
+    assert!(rt; dup.new_shape().is_some());
+    Ok(())
+}
+
 #[test]
 fn a_frame_is_acquired_and_released(rt: HostRuntime) -> Result<(), Fail> {
     let (log, mut dup) = presented(rt.alloc())?;
@@ -131,6 +171,12 @@ fn calls_are_answered(rt: HostRuntime) -> Result<(), Fail> {
     assert!(rt; matches!(&frame, Answer::Frame { .. }));
     let surface = dup.ask(&log, DupCall::Surface)?;
     assert!(rt; matches!(&surface, Answer::Surface(Some(_))));
+    let moves = dup.ask(&log, DupCall::Moves { buffer: 0 })?;
+    assert!(rt; matches!(&moves, Answer::Buffer { size: 0, .. }));
+    let dirt = dup.ask(&log, DupCall::Dirty { buffer: 16 })?;
+    assert!(rt; matches!(&dirt, Answer::Buffer { size: 16, .. }));
+    let shape = dup.ask(&log, DupCall::Shape { buffer: 1 })?;
+    assert!(rt; matches!(&shape, Answer::ShapeBuffer { size: 0, shape: None, .. }));
     let released = dup.ask(&log, DupCall::Release)?;
     assert!(rt; matches!(&released, Answer::Released));
     let nothing_new = Err(DupRefusal::WaitTimeout);

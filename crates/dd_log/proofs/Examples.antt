@@ -3,7 +3,7 @@ use Rattle.std.proofs.Common.{◌≡◌, ℕ, true, false, pos, List, [], ◌∷
 use Rattle.dd_geom.specs.declared.rect.Rect.{Rect}
 use Rattle.dd_geom.specs.Grid.{rows}
 use Rattle.dd_modes.specs.declared.modes.Rotation.TheVariants.{Identity}
-use Rattle.dd_ops.specs.declared.operations.Op.TheVariants.{Fill}
+use Rattle.dd_ops.specs.declared.operations.Op.TheVariants.{Fill, Cover}
 use Rattle.dd_pointer.specs.declared.kind.Kind.TheVariants.{Monochrome}
 use Rattle.dd_pointer.specs.Shape.{PointerShape}
 use Rattle.dd_log.specs.declared.answers.LogRefusal.TheVariants.{Ended, Full, BadMode, BadRect}
@@ -20,6 +20,7 @@ use Rattle.dd_log.specs.declared.desk.TheConstants.{MAX_DUPLICATORS}
 use Rattle.dd_log.specs.Desk.{desk_of, desk_after, first_desk}
 use Rattle.dd_log.specs.History.{History, begun, desk, allowed, refusal, legal, may_add, opens_at, before_end, any_points, last_present, last_pointed, last_shape}
 use Rattle.dd_log.specs.Picture.{state_of, picture, view, presents}
+use Rattle.dd_log.specs.Veil.{veil, entries_coloured}
 
 abbrev rect : ℕ → ℕ → ℕ → ℕ → Rect
 rect l t r b = record { left = pos l; top = pos t; right = pos r; bottom = pos b }
@@ -245,3 +246,21 @@ most_duplicators = refl
 
 most_privileged : MAX_PRIVILEGED ≡ 16
 most_privileged = refl
+
+-- a cover beside a fill, and the veil of their list: black is hidden, and the fill stays
+abbrev hiding : List ℕ → Entry
+hiding colours =
+    entry 2 2 (events.Draw (Present (Fill (rect 0 0 1 1) 7 ∷ Cover (rect 1 1 3 2) colours ∷ [])))
+
+veil_of : veil (lists (opening ∷ hiding (8 ∷ 9 ∷ []) ∷ [])) ≡ lists (opening ∷ hiding (0 ∷ 0 ∷ []) ∷ [])
+veil_of = refl
+
+-- a list that hides no colour isn't legal, but its veil is
+no_colour : entries_coloured (opening ∷ hiding (8 ∷ 16777216 ∷ []) ∷ []) ≡ false
+no_colour = refl
+
+legal_veil_alone :
+    (legal (lists (hiding (8 ∷ 16777216 ∷ []) ∷ [])) ≡ false)
+    × (legal (veil (lists (hiding (8 ∷ 16777216 ∷ []) ∷ []))) ≡ true)
+unfolding legal may_add desk_of desk_after first_desk
+legal_veil_alone = (refl, refl)

@@ -5,3 +5,4 @@ pub mod Legal
 pub mod Pictures
 pub mod Shown
 pub mod Snoc
+pub mod Veiling

@@ -4,3 +4,4 @@ pub mod History
 pub mod Log
 pub mod Picture
 pub mod Slots
+pub mod Veil

@@ -1,7 +1,8 @@
 //! What legal lists are and show: laws, with nothing to run.
 
-ghost use Rattle.dd_log.specs.History.{BeginningIsLegal, LegalByEntries, LegalHasRoom, EndIsLast, BeforeEndCounts};
+ghost use Rattle.dd_log.specs.History.{History, BeginningIsLegal, LegalByEntries, LegalHasRoom, EndIsLast, BeforeEndCounts};
 ghost use Rattle.dd_log.specs.Picture.{LegalIsShown, PictureGoesOn, PictureBegins, PictureSinceStart};
+ghost use Rattle.dd_log.specs.Veil.{VeilIsLegal, VeilRefuses, VeilShows};
 
 /// Of a legal list, in modes of a size that surfaces have, the desk's picture is a picture, and what
 /// is seen of it a surface: each colour is below 2^24.
@@ -49,4 +50,19 @@ pub fn picture_begins()
 /// What stands before the place where the last picture begins doesn't matter.
 pub fn picture_since_start()
     ensures { PictureSinceStart }
+{}
+
+/// A list and its veil have the same desk, show the same and hide the same points.
+pub fn veil_shows()
+    ensures { (h : History) → VeilShows h }
+{}
+
+/// Where what an event's covers hide are colours, the veil refuses it, veiled, as the list does.
+pub fn veil_refuses()
+    ensures { VeilRefuses }
+{}
+
+/// The veil of a legal list is legal; where what covers hide are colours, that of no other list is.
+pub fn veil_is_legal()
+    ensures { (h : History) → VeilIsLegal h }
 {}

@@ -1,13 +1,14 @@
--- How many operations a present has, and small lists of them, fitted and drawn by the definitions.
-use Rattle.std.proofs.Common.{◌≡◌, ℕ, true, false, pos, List, [], ◌∷◌, Some, None, refl}
+-- How many operations a present has, and small lists of them, fitted, drawn and veiled by the definitions.
+use Rattle.std.proofs.Common.{◌≡◌, ℕ, true, false, pos, List, [], ◌∷◌, ◌++◌, Some, None, refl}
 use Rattle.dd_geom.specs.declared.rect.Rect.{Rect}
 use Rattle.dd_geom.specs.declared.rect.Move.{Move}
 use Rattle.dd_geom.specs.Grid.{rows}
-use Rattle.dd_grid.specs.Drawing.{black, seen, any_hidden}
+use Rattle.dd_grid.specs.Drawing.{black, seen, any_hidden, hidden_points}
 use Rattle.dd_ops.specs.declared.operations.Op.{Op}
 use Rattle.dd_ops.specs.declared.operations.Op.TheVariants.{Fill, Blit, Cover, Scroll}
 use Rattle.dd_ops.specs.declared.lists.TheConstants.{MAX_OPS}
 use Rattle.dd_ops.specs.Operations.{fits, all_fit, first_unfit, drawn}
+use Rattle.dd_ops.specs.Veil.{veiled, covers_coloured}
 
 abbrev rect : ℕ → ℕ → ℕ → ℕ → Rect
 rect l t r b = record { left = pos l; top = pos t; right = pos r; bottom = pos b }
@@ -94,3 +95,25 @@ from_outside = refl
 
 to_outside : fits 4 3 (Scroll (from 0 0 (rect 2 0 5 1))) ≡ false
 to_outside = refl
+
+-- the veil of a list: as many black colours in its cover, and the image as it is
+three_veiled :
+    veiled three
+    ≡ Fill (rect 0 0 4 1) 16711680 ∷ Blit (rect 0 1 3 2) (1 ∷ 2 ∷ 3 ∷ []) ∷ Cover (rect 2 0 4 2) (0 ∷ 0 ∷ 0 ∷ 0 ∷ []) ∷ []
+three_veiled = refl
+
+-- after a scroll too, the same points are hidden: a cover of black is a cover
+still_hidden :
+    rows (hidden_points (drawn (black 4 3) (veiled (three ++ slide ∷ []))))
+    ≡ (false ∷ false ∷ true ∷ true ∷ []) ∷ (false ∷ true ∷ true ∷ true ∷ []) ∷ (false ∷ true ∷ true ∷ false ∷ []) ∷ []
+still_hidden = refl
+
+-- a cover that hides no colour doesn't fit, but its veil does
+abbrev no_cover : List Op
+no_cover = Cover (rect 1 1 3 2) (1 ∷ 16777216 ∷ []) ∷ []
+
+not_coloured : covers_coloured no_cover ≡ false
+not_coloured = refl
+
+veil_of_none : (first_unfit 4 3 no_cover ≡ Some 0) × (first_unfit 4 3 (veiled no_cover) ≡ None)
+veil_of_none = (refl, refl)

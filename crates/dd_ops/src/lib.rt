@@ -8,6 +8,8 @@ mod operations;
 mod tests;
 
 pub use dd_grid::COLOURS;
-pub use laws::{drawn_is_picture, seen_follows};
+pub use laws::{
+    drawn_is_picture, seen_follows, veil_fits, veil_hides, veil_is_hidden, veil_is_seen, veil_unfit,
+};
 pub use lists::{Colours, MAX_OPS, Ops, OpsFault};
 pub use operations::{Op, apply, apply_seen, fits};

@@ -5,7 +5,7 @@ ghost use Rattle.dd_ops.specs.Operations.{all_fit};
 
 use crate::{
     COLOURS, Colours, MAX_OPS, Op, Ops, OpsFault, apply, apply_seen, drawn_is_picture, fits,
-    seen_follows,
+    seen_follows, veil_fits, veil_hides, veil_is_hidden, veil_is_seen, veil_unfit,
 };
 use dd_geom::{Move, Point, Rect};
 use dd_grid::{Picture, Surface};
@@ -387,4 +387,9 @@ fn colours_keep_their_vector(rt: HostRuntime) -> Result<(), Fail> {
 fn laws_can_be_called() {
     drawn_is_picture();
     seen_follows();
+    veil_hides();
+    veil_is_seen();
+    veil_is_hidden();
+    veil_fits();
+    veil_unfit();
 }

@@ -1,9 +1,10 @@
 -- The trees and the lines of some answers, computed.
-use Rattle.std.proofs.Common.{◌≡◌, pos, negsuc, false, [], ◌∷◌, codes, Some, None, refl}
+use Rattle.std.proofs.Common.{◌≡◌, ℕ, List, pos, negsuc, true, false, [], ◌∷◌, codes, Some, None, refl}
 use Rattle.serde_json.specs.Data.{boolean, number, unsigned, negative, array, object, item, no_items, member, no_members}
 use Rattle.dd_geom.specs.declared.rect.Rect.{Rect}
 use Rattle.dd_geom.specs.declared.rect.Move.{Move}
 use Rattle.dd_modes.specs.declared.modes.Rotation.TheVariants.{Unspecified, Rotate270}
+use Rattle.dd_pointer.specs.declared.shape.ShapeInfo.{ShapeInfo}
 use Rattle.dd_log.specs.declared.answers.FrameInfo.{FrameInfo}
 use Rattle.dd_log.specs.declared.answers.Answer.TheVariants as answer
 use Rattle.dd_log.specs.declared.answers.LogRefusal.TheVariants as drawing
@@ -70,6 +71,45 @@ line_of_a_frame : line (answer.Frame (record told { meta_size = 40 }) (moved ∷
 unfolding answers_on_literals
 line_of_a_frame = refl
 
+-- a frame of the pointer alone: the last shape of four bytes, and where the pointer is shown
+abbrev pointed : FrameInfo
+pointed =
+    record {
+      last_present = 0;
+      last_mouse = 3;
+      accumulated = 0;
+      coalesced = false;
+      protected = false;
+      pointer = record { position = record { x = negsuc 4; y = pos 2 }; visible = true };
+      meta_size = 0;
+      shape_size = 4;
+    }
+
+line_of_a_pointer : line (answer.Frame pointed [] [])
+    ≡ codes "{\"dirty\":[],\"frame\":{\"accumulated\":0,\"coalesced\":false,\"meta\":0,\"mouse\":3,\"pointer\":[-5,2],\"present\":0,\"protected\":false,\"shape\":4,\"visible\":true},\"moves\":[]}\n"
+unfolding answers_on_literals
+line_of_a_pointer = refl
+
+-- a shape of two columns under masks of two rows
+abbrev arrow : ShapeInfo
+arrow = record { kind = 1; width = 2; height = 4; pitch = 1; hot = record { x = negsuc 0; y = pos 3 } }
+
+-- a buffer with a rectangle in front, and one with that shape
+abbrev of_a_rectangle : List ℕ
+of_a_rectangle =
+    1 ∷ 0 ∷ 0 ∷ 0 ∷ 1 ∷ 0 ∷ 0 ∷ 0 ∷ 3 ∷ 0 ∷ 0 ∷ 0 ∷ 2 ∷ 0 ∷ 0 ∷ 0 ∷ 238 ∷ 238 ∷ 238 ∷ 238 ∷ []
+
+abbrev of_an_arrow : List ℕ
+of_an_arrow = 0xc0 ∷ 0 ∷ 0x80 ∷ 0x80 ∷ 238 ∷ []
+
+-- an empty buffer, these two, and one of no new shape
+lines_of_buffers : text
+    (answer.Buffer 0 [] ∷ answer.Buffer 16 of_a_rectangle
+    ∷ answer.ShapeBuffer 4 of_an_arrow (Some arrow) ∷ answer.ShapeBuffer 0 (238 ∷ []) None ∷ [])
+    ≡ codes "{\"buffer\":\"\",\"size\":0}\n{\"buffer\":\"01000000010000000300000002000000eeeeeeee\",\"size\":16}\n{\"buffer\":\"c0008080ee\",\"info\":{\"height\":4,\"hot\":[-1,3],\"kind\":1,\"pitch\":1,\"width\":2},\"size\":4}\n{\"buffer\":\"ee\",\"info\":null,\"size\":0}\n"
+unfolding answers_on_literals
+lines_of_buffers = refl
+
 -- answers, and the text of each of them
 lines_of_accepted_calls : text (answer.Entered 2 ∷ answer.Opened 1 3 ∷ answer.Closed 4 ∷ answer.Released ∷ answer.Surface None ∷ answer.Surface (Some ((0xff8001 ∷ 255 ∷ []) ∷ [])) ∷ [])
     ≡ codes "{\"entry\":2}\n{\"entry\":1,\"slot\":3}\n{\"entry\":4}\n{\"released\":true}\n{\"surface\":null}\n{\"surface\":[\"ff80010000ff\"]}\n"
@@ -97,7 +137,7 @@ unfolding answers_on_literals
 lines_of_refused_closings = refl
 
 -- a lost duplicator, with a buffer of two bytes that stays as it was and without
-lines_of_refused_calls : text (answer.Refused call.AccessLost (Some (238 ∷ 238 ∷ [])) ∷ answer.Refused call.AccessLost None ∷ answer.Refused call.InvalidCall None ∷ answer.Refused call.InvalidCall (Some (238 ∷ 1 ∷ [])) ∷ answer.Refused call.WaitTimeout None ∷ answer.Refused call.OutOfMemory None ∷ answer.NoDuplicator ∷ [])
-    ≡ codes "{\"buffer\":\"eeee\",\"code\":\"887a0026\",\"refused\":\"AccessLost\"}\n{\"code\":\"887a0026\",\"refused\":\"AccessLost\"}\n{\"code\":\"887a0001\",\"refused\":\"InvalidCall\"}\n{\"buffer\":\"ee01\",\"code\":\"887a0001\",\"refused\":\"InvalidCall\"}\n{\"code\":\"887a0027\",\"refused\":\"WaitTimeout\"}\n{\"refused\":\"OutOfMemory\"}\n{\"refused\":\"NoDuplicator\"}\n"
+lines_of_refused_calls : text (answer.Refused call.AccessLost (Some (238 ∷ 238 ∷ [])) ∷ answer.Refused call.AccessLost None ∷ answer.Refused call.InvalidCall None ∷ answer.Refused call.InvalidCall (Some (238 ∷ 1 ∷ [])) ∷ answer.Refused call.WaitTimeout None ∷ answer.Refused (call.MoreData 16) (Some (238 ∷ 238 ∷ [])) ∷ answer.Refused call.OutOfMemory None ∷ answer.NoDuplicator ∷ [])
+    ≡ codes "{\"buffer\":\"eeee\",\"code\":\"887a0026\",\"refused\":\"AccessLost\"}\n{\"code\":\"887a0026\",\"refused\":\"AccessLost\"}\n{\"code\":\"887a0001\",\"refused\":\"InvalidCall\"}\n{\"buffer\":\"ee01\",\"code\":\"887a0001\",\"refused\":\"InvalidCall\"}\n{\"code\":\"887a0027\",\"refused\":\"WaitTimeout\"}\n{\"buffer\":\"eeee\",\"code\":\"887a0003\",\"refused\":\"MoreData\",\"required\":16}\n{\"refused\":\"OutOfMemory\"}\n{\"refused\":\"NoDuplicator\"}\n"
 unfolding answers_on_literals
 lines_of_refused_calls = refl

@@ -1,6 +1,6 @@
 -- What is read of a tree is in its range.
 use Rattle.std.proofs.Common.{◌≡◌, ℕ, suc, ◌*◌, ◌/◌, ◌%◌, ◌+◌, true, false, Bool, List, [], ◌∷◌, length, Some, None, Ok, Err, Option, Result, cond, arith, refl, ap, ◌∙◌, subst, IfSome, option_and_then, option_map}
-use Rattle.std.specs.Prelude.{◌&&◌, ◌==◌, nat_le, ℤ, codes, map, is_some}
+use Rattle.std.specs.Prelude.{◌&&◌, ◌==◌, nat_le, ℤ, codes, map, is_some, is_none}
 use Rattle.std.specs.List.{list_all, range_with_len}
 use Rattle.std.specs.Int.{w32, from_be_bytes}
 use Rattle.std.specs.Result.{result_ok}
@@ -13,18 +13,22 @@ use Rattle.hex.specs.declared.error.FromHexError.TheVariants.{OddLength, Invalid
 use Rattle.hex.proofs.HexLemmas.{decode_pairs-ok}
 use Rattle.serde_json.specs.Data.{Data}
 use Rattle.serde_json.specs.Find.{get, at, as_bool, as_number, as_u64, as_i64, as_str}
+use Rattle.dd_geom.specs.declared.rect.Point.{Point}
 use Rattle.dd_modes.specs.Modes.{are_modes}
+use Rattle.dd_pointer.specs.declared.kind.Kind.{Kind}
+use Rattle.dd_pointer.specs.declared.shape.ShapeFault.{ShapeFault}
+use Rattle.dd_pointer.specs.Shape.{PointerShape, shape_fault, unless, read_as, kind_of, reading}
 use Rattle.dd_ops.specs.declared.operations.Op.{Op}
 use Rattle.dd_ops.specs.declared.lists.TheConstants.{MAX_OPS}
 use Rattle.dd_station.specs.declared.steps.ClientCall.{ClientCall}
 use Rattle.dd_log.specs.declared.events.Draw as draws
 use Rattle.dd_log.specs.declared.events.Draw.TheVariants as drawings
-use Rattle.dd_station.specs.declared.steps.ClientCall.TheVariants.{Duplicate, Close, Acquire, Release, Surface, Desc}
+use Rattle.dd_station.specs.declared.steps.ClientCall.TheVariants.{Duplicate, Close, Acquire, Release, Moves, Dirty, Shape, Surface, Desc}
 use Rattle.dd_station.specs.declared.steps.Step.TheVariants.{Draw}
 use Rattle.dd_station.specs.declared.steps.Script.{Script}
-use Rattle.dd_script.specs.Script.{has_items, has_keys, list_of, each, u32_of, i32_of, rect_of, point_of, colour_at, colour_of, colours_in, colours_from, colours_of, fill_of, blit_of, scroll_of, operation_of, operations_of, present_of, change_of, switch_of, has_true, session_of, draw_of, call_named, call_of, step_of, steps_of, mode_of, modes_of, apps_of, parts_of, keeps_limits, script_of}
+use Rattle.dd_script.specs.Script.{has_items, has_keys, list_of, each, u32_of, i32_of, rect_of, point_of, colour_at, colour_of, colours_in, colours_from, bytes_of, colours_of, fill_of, blit_of, cover_of, scroll_of, operation_of, operations_of, present_of, pointer_of, shape_of, change_of, switch_of, has_true, session_of, single_of, draw_of, call_named, filling_named, buffer_of, plain_call_of, filling_call_of, client_call_of, call_of, step_of, steps_of, mode_of, modes_of, apps_of, parts_of, keeps_limits, script_of}
 use Rattle.dd_script.proofs.Holds.{then_holds, always_holds, map_holds, tested_holds, either_holds, key_holds, place_holds}
-use Rattle.dd_script.specs.Spelling.{is_number, is_coordinate, is_point, is_rectangle, is_colour, is_operation, is_drawing, is_call, is_step, is_readable}
+use Rattle.dd_script.specs.Spelling.{is_number, is_coordinate, is_point, is_rectangle, is_colour, is_operation, is_byte, is_shape, is_drawing, is_buffer, is_call, is_step, is_readable}
 
 -- ---- parts that pass a test
 
@@ -144,13 +148,16 @@ colours_pass_at bytes h (i ∷ places) =
     let blue = h (3 * i + 2) in
     and_from _ _ (lt-ltb _ _ (omega arith)) (colours_pass_at bytes h places)
 
+bytes_hold : (d : Data) → IfSome (bytes_of d) IsBytes
+unfolding bytes_of
+bytes_hold d = always_holds IsBytes (as_str d) _ all_bytes
+
 colours_pass : (d : Data) → Passes (list_all is_colour) (colours_of d)
 unfolding colours_of colours_from
 colours_pass d =
-    always_holds (passed (list_all is_colour)) (as_str d) _ (λ text.
-    then_holds IsBytes (passed (list_all is_colour)) (result_ok (decode_of text)) _ (all_bytes text) (λ bytes h.
+    then_holds IsBytes (passed (list_all is_colour)) (bytes_of d) _ (bytes_hold d) (λ bytes h.
     tested_holds (passed (list_all is_colour)) (length bytes % 3 == 0) (Some (colours_in bytes)) (λ _.
-    colours_pass_at bytes h (range_with_len 0 (length bytes / 3)))))
+    colours_pass_at bytes h (range_with_len 0 (length bytes / 3))))
 
 fill_passes : (d : Data) → Passes is_operation (fill_of d)
 unfolding fill_of
@@ -167,6 +174,14 @@ blit_passes d =
     (λ cs hc.
     and_from _ _ hr hc))
 
+cover_passes : (d : Data) → Passes is_operation (cover_of d)
+unfolding cover_of
+cover_passes d =
+    key_holds (passed is_rectangle) (passed is_operation) (codes "cover") d rect_of _ rectangle_passes (λ r hr.
+    key_holds (passed (list_all is_colour)) (passed is_operation) (codes "colours") d colours_of _ colours_pass
+    (λ cs hc.
+    and_from _ _ hr hc))
+
 scroll_passes : (d : Data) → Passes is_operation (scroll_of d)
 unfolding scroll_of
 scroll_passes d =
@@ -179,9 +194,14 @@ unfolding operation_of
 operation_passes d =
     let fills : Bool = is_some (get (codes "fill") d) in
     let blits : Bool = is_some (get (codes "blit") d) in
-    let others = either_holds (passed is_operation) blits (blit_of d) (scroll_of d) (blit_passes d) (scroll_passes d) in
+    let covers : Bool = is_some (get (codes "cover") d) in
+    let scroll : Option Op = scroll_of d in
+    let cover : Option Op = cond covers (cover_of d) scroll in
+    let blit : Option Op = cond blits (blit_of d) cover in
     tested_holds (passed is_operation) (has_keys 2 d) _ (λ _.
-    either_holds (passed is_operation) fills (fill_of d) (cond blits (blit_of d) (scroll_of d)) (fill_passes d) others)
+    either_holds (passed is_operation) fills (fill_of d) blit (fill_passes d)
+    (either_holds (passed is_operation) blits (blit_of d) cover (blit_passes d)
+    (either_holds (passed is_operation) covers (cover_of d) scroll (cover_passes d) (scroll_passes d))))
 
 -- few operations, each of which passes
 abbrev are_operations : List Op → Bool
@@ -200,6 +220,45 @@ unfolding present_of
 present_passes d =
     key_holds (passed are_operations) (passed is_drawing) (codes "present") d operations_of _ operations_pass (λ ops h.
     h)
+
+pointer_passes : (d : Data) → Passes is_drawing (pointer_of d)
+unfolding pointer_of
+pointer_passes d =
+    tested_holds (passed is_drawing) (has_keys 2 d) _ (λ _.
+    key_holds (passed is_point) (passed is_drawing) (codes "pointer") d point_of _ point_passes (λ position h.
+    always_holds (passed is_drawing) (option_and_then as_bool (get (codes "visible") d)) _ (λ visible. h)))
+
+-- bytes pass one by one
+bytes_pass : (bytes : List ℕ) → IsBytes bytes → list_all is_byte bytes ≡ true
+bytes_pass [] h = refl
+bytes_pass (b ∷ bytes) h = and_from _ _ (lt-ltb _ _ (h 0)) (bytes_pass bytes (λ i. h (suc i)))
+
+-- parts without a fault, and parts of any kind
+faultless_passes : (fault : Option ShapeFault) (s : PointerShape)
+    → shape_fault s.kind s.width s.height s.bytes ≡ fault → is_point s.hot ≡ true → list_all is_byte s.bytes ≡ true
+    → Passes is_shape (result_ok (unless fault s))
+faultless_passes None s e p b = and_from _ _ (and_from _ _ (ap is_none e) p) b
+faultless_passes (Some fault) s e p b = tt
+
+read_passes : (kind : Option Kind) (width height : ℕ) (hot : Point) (bytes : List ℕ)
+    → is_point hot ≡ true → IsBytes bytes → Passes is_shape (result_ok (read_as kind width height hot bytes))
+read_passes None width height hot bytes p b = tt
+read_passes (Some kind) width height hot bytes p b =
+    faultless_passes (shape_fault kind width height bytes)
+    (record { kind = kind; width = width; height = height; hot = hot; bytes = bytes }) refl p (bytes_pass bytes b)
+
+shape_passes : (d : Data) → Passes is_drawing (shape_of d)
+unfolding shape_of
+shape_passes d =
+    let passes : draws.Draw → Type 0 = passed is_drawing in
+    tested_holds passes (has_keys 5 d) _ (λ _.
+    always_holds passes (option_and_then u32_of (get (codes "shape") d)) _ (λ kind.
+    always_holds passes (option_and_then u32_of (get (codes "width") d)) _ (λ width.
+    always_holds passes (option_and_then u32_of (get (codes "height") d)) _ (λ height.
+    key_holds (passed is_point) passes (codes "hot") d point_of _ point_passes (λ hot p.
+    key_holds IsBytes passes (codes "bytes") d bytes_of _ bytes_hold (λ bytes b.
+    then_holds (passed is_shape) passes (result_ok (reading kind width height hot bytes)) _
+    (read_passes (kind_of kind) width height hot bytes p b) (λ shape h. h)))))))
 
 change_passes : (d : Data) → Passes is_drawing (change_of d)
 unfolding change_of
@@ -220,9 +279,9 @@ session_passes d =
     either_holds (passed is_drawing) leaves (Some drawings.Disconnect) back refl
     (either_holds (passed is_drawing) comes (Some drawings.Reconnect) None refl tt)
 
-drawing_passes : (d : Data) → Passes is_drawing (draw_of d)
-unfolding draw_of
-drawing_passes d =
+single_passes : (d : Data) → Passes is_drawing (single_of d)
+unfolding single_of
+single_passes d =
     let presents : Bool = is_some (get (codes "present") d) in
     let changes : Bool = is_some (get (codes "mode") d) in
     let switches : Bool = is_some (get (codes "switch") d) in
@@ -233,6 +292,16 @@ drawing_passes d =
     either_holds (passed is_drawing) presents (present_of d) change (present_passes d)
     (either_holds (passed is_drawing) changes (change_of d) switch (change_passes d)
     (either_holds (passed is_drawing) switches (switch_of d) session (switch_passes d) (session_passes d))))
+
+drawing_passes : (d : Data) → Passes is_drawing (draw_of d)
+unfolding draw_of
+drawing_passes d =
+    let points : Bool = is_some (get (codes "pointer") d) in
+    let shapes : Bool = is_some (get (codes "shape") d) in
+    let single : Option draws.Draw = single_of d in
+    let shape : Option draws.Draw = cond shapes (shape_of d) single in
+    either_holds (passed is_drawing) points (pointer_of d) shape (pointer_passes d)
+    (either_holds (passed is_drawing) shapes (shape_of d) single (shape_passes d) (single_passes d))
 
 -- ---- steps
 
@@ -252,14 +321,48 @@ named_passes name =
     (either_holds (passed is_call) (names (codes "surface")) (Some Surface) desc refl
     (either_holds (passed is_call) (names (codes "desc")) (Some Desc) None refl tt)))))
 
+filling_passes : (name : List ℕ) (buffer : ℕ) → is_buffer buffer ≡ true → Passes is_call (filling_named name buffer)
+unfolding filling_named
+filling_passes name buffer h =
+    let names : List ℕ → Bool = bytes_eq name in
+    let shape : Option ClientCall = cond (names (codes "shape")) (Some (Shape buffer)) None in
+    let dirty : Option ClientCall = cond (names (codes "dirty")) (Some (Dirty buffer)) shape in
+    either_holds (passed is_call) (names (codes "moves")) (Some (Moves buffer)) dirty h
+    (either_holds (passed is_call) (names (codes "dirty")) (Some (Dirty buffer)) shape h
+    (either_holds (passed is_call) (names (codes "shape")) (Some (Shape buffer)) None h tt))
+
+buffer_passes : (d : Data) → Passes is_buffer (buffer_of d)
+unfolding buffer_of
+buffer_passes d =
+    always_holds (passed is_buffer) (u32_of d) _ (λ n.
+    tested_holds (passed is_buffer) (is_buffer n) (Some n) (λ h. h))
+
+plain_call_passes : (d : Data) → Passes is_call (plain_call_of d)
+unfolding plain_call_of
+plain_call_passes d =
+    tested_holds (passed is_call) (has_keys 2 d) _ (λ _.
+    always_holds (passed is_call) (option_and_then as_str (get (codes "call") d)) _ named_passes)
+
+filling_call_passes : (d : Data) → Passes is_call (filling_call_of d)
+unfolding filling_call_of
+filling_call_passes d =
+    tested_holds (passed is_call) (has_keys 3 d) _ (λ _.
+    always_holds (passed is_call) (option_and_then as_str (get (codes "call") d)) _ (λ name.
+    key_holds (passed is_buffer) (passed is_call) (codes "buffer") d buffer_of _ buffer_passes (filling_passes name)))
+
+client_call_passes : (d : Data) → Passes is_call (client_call_of d)
+unfolding client_call_of
+client_call_passes d =
+    let fills : Bool = is_some (get (codes "buffer") d) in
+    either_holds (passed is_call) fills (filling_call_of d) (plain_call_of d) (filling_call_passes d)
+    (plain_call_passes d)
+
 call_passes : (d : Data) → Passes is_step (call_of d)
 unfolding call_of
 call_passes d =
-    tested_holds (passed is_step) (has_keys 2 d) _ (λ _.
     key_holds (passed is_number) (passed is_step) (codes "client") d u32_of _ number_passes (λ client hk.
-    always_holds (passed is_step) (option_and_then as_str (get (codes "call") d)) _ (λ name.
-    then_holds (passed is_call) (passed is_step) (call_named name) _ (named_passes name) (λ call hc.
-    and_from _ _ hk hc))))
+    then_holds (passed is_call) (passed is_step) (client_call_of d) _ (client_call_passes d) (λ call hc.
+    and_from _ _ hk hc))
 
 step_passes : (d : Data) → Passes is_step (step_of d)
 unfolding step_of

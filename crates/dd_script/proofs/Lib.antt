@@ -6,6 +6,7 @@ pub mod StepCount
 pub mod Each
 pub mod Runnable
 pub mod Causes
+pub mod Faults
 pub mod OnLiterals
 pub mod ScriptExamples
 pub mod NoFloat

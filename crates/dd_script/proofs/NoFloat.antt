@@ -3,16 +3,16 @@ use Rattle.std.proofs.Common.{◌≡◌, ℕ, ℤ, pos, negsuc, false, List, [],
 use Rattle.serde_json.specs.Data.{Data, Members, string}
 use Rattle.serde_json.specs.Find.{is_float, of_integer}
 use Rattle.serde_json.specs.View.{items_of}
-use Rattle.hex.specs.Hex.{encode_lower}
 use Rattle.serde_json.specs.Written.{has_float, items_have_float, members_have_float}
 use Rattle.dd_geom.specs.declared.rect.Point.{Point}
 use Rattle.dd_geom.specs.declared.rect.Rect.{Rect}
 use Rattle.dd_geom.specs.declared.rect.Move.{Move}
+use Rattle.dd_pointer.specs.declared.shape.ShapeInfo.{ShapeInfo}
 use Rattle.dd_modes.specs.declared.modes.Mode.{Mode}
 use Rattle.dd_log.specs.declared.answers.FrameInfo.{FrameInfo}
 use Rattle.dd_log.specs.declared.answers.Answer.{Answer}
 use Rattle.dd_log.specs.declared.answers.Answer.TheVariants as answer
-use Rattle.dd_script.specs.Answers.{count, part, Refusal, point_tree, rect_tree, move_tree, info_tree, frame_tree, row_tree, surface_tree, desc_tree, refusal_tree, answer_tree}
+use Rattle.dd_script.specs.Answers.{count, part, Refusal, point_tree, rect_tree, move_tree, info_tree, frame_tree, row_tree, surface_tree, desc_tree, bytes_tree, buffer_tree, shape_tree, shape_buffer_tree, refusal_tree, answer_tree}
 
 coordinate_has_none : (z : ℤ) → is_float (of_integer z) ≡ false
 coordinate_has_none (pos n) = refl
@@ -53,6 +53,20 @@ desc_has_none : (m : Mode) → has_float (desc_tree m) ≡ false
 unfolding desc_tree
 desc_has_none m = refl
 
+buffer_has_none : (bytes : List ℕ) (size : ℕ) → has_float (buffer_tree bytes size) ≡ false
+unfolding buffer_tree
+buffer_has_none bytes size = refl
+
+shape_has_none : (i : ShapeInfo) → has_float (shape_tree i) ≡ false
+unfolding shape_tree
+shape_has_none i = simp point_has_none
+
+shape_buffer_has_none : (bytes : List ℕ) (shape : Option ShapeInfo) (size : ℕ)
+    → has_float (shape_buffer_tree bytes shape size) ≡ false
+unfolding shape_buffer_tree
+shape_buffer_has_none bytes None size = refl
+shape_buffer_has_none bytes (Some info) size = rw (shape_has_none info) refl
+
 -- a part more, which has none
 part_has_none : {T : Type 0} (key : List ℕ) (f : T → Data) → ((x : T) → has_float (f x) ≡ false)
     → (o : Option T) (ms : Members) → members_have_float (part key (option_map f o) ms) ≡ members_have_float ms
@@ -62,9 +76,10 @@ part_has_none key f h (Some x) ms = rw (h x) refl
 refusal_has_none : (r : Refusal) → has_float (refusal_tree r) ≡ false
 unfolding refusal_tree
 refusal_has_none r =
-    part_has_none (codes "buffer") (λ bytes. string (encode_lower bytes)) (λ _. refl) r.buffer _
+    part_has_none (codes "buffer") bytes_tree (λ _. refl) r.buffer _
     ∙ part_has_none (codes "code") string (λ _. refl) r.code _
     ∙ part_has_none (codes "op") count (λ _. refl) r.op _
+    ∙ part_has_none (codes "required") count (λ _. refl) r.required _
 
 pub answer_has_no_float : (a : Answer) → has_float (answer_tree a) ≡ false
 unfolding answer_tree
@@ -78,5 +93,7 @@ answer_has_no_float (answer.Frame info moves dirt) = frame_has_none info moves d
 answer_has_no_float answer.Released = refl
 answer_has_no_float (answer.Surface rows) = surface_has_none rows
 answer_has_no_float (answer.Desc mode) = desc_has_none mode
+answer_has_no_float (answer.Buffer size bytes) = buffer_has_none bytes size
+answer_has_no_float (answer.ShapeBuffer size bytes shape) = shape_buffer_has_none bytes shape size
 answer_has_no_float (answer.Refused refusal buffer) = refusal_has_none _
 answer_has_no_float answer.NoDuplicator = refusal_has_none _

@@ -4,22 +4,23 @@ use Rattle.std.specs.Fmt.{digits}
 use Rattle.hex.specs.Hex.{encode_with}
 use Rattle.hex.proofs.OnLiterals.{hex_on_literals}
 use Rattle.dd_modes.specs.Modes.{is_mode, are_modes}
-use Rattle.dd_script.specs.Script.{u32_of, i32_of, point_of, rect_of, colour_of, colours_from, colours_of, fill_of, blit_of, scroll_of, operation_of, operations_of, present_of, change_of, switch_of, has_true, session_of, draw_of, call_named, call_of, step_of, steps_of, rotation_numbered, mode_of, modes_of, apps_of, parts_of, keeps_limits, script_of}
-use Rattle.dd_script.specs.Answers.{point_tree, rect_tree, move_tree, info_tree, frame_tree, row_digits, surface_tree, desc_tree, refusal_tree, answer_tree}
+use Rattle.dd_pointer.specs.Shape.{shape_fault}
+use Rattle.dd_script.specs.Script.{u32_of, i32_of, point_of, rect_of, colour_of, colours_from, bytes_of, colours_of, fill_of, blit_of, cover_of, scroll_of, operation_of, operations_of, present_of, pointer_of, shape_of, change_of, switch_of, has_true, session_of, single_of, draw_of, call_named, filling_named, buffer_of, plain_call_of, filling_call_of, client_call_of, call_of, step_of, steps_of, rotation_numbered, mode_of, modes_of, apps_of, parts_of, keeps_limits, script_of}
+use Rattle.dd_script.specs.Answers.{point_tree, rect_tree, move_tree, info_tree, frame_tree, row_digits, surface_tree, desc_tree, buffer_tree, shape_tree, shape_buffer_tree, refusal_tree, answer_tree}
 use Rattle.dd_script.specs.Texts.{line, text}
 
 -- what an answer unfolds to compute the script of a literal text
 unfoldable pub script_on_literals : ⊤
-unfolding serde_json_on_literals hex_on_literals is_mode are_modes
-    u32_of i32_of point_of rect_of colour_of colours_from colours_of fill_of blit_of scroll_of
-    operation_of operations_of present_of change_of switch_of has_true session_of draw_of
-    call_named call_of step_of steps_of rotation_numbered mode_of modes_of apps_of
-    parts_of keeps_limits script_of
+unfolding serde_json_on_literals hex_on_literals is_mode are_modes shape_fault
+    u32_of i32_of point_of rect_of colour_of colours_from bytes_of colours_of fill_of blit_of cover_of scroll_of
+    operation_of operations_of present_of pointer_of shape_of change_of switch_of has_true session_of single_of draw_of
+    call_named filling_named buffer_of plain_call_of filling_call_of client_call_of call_of step_of steps_of
+    rotation_numbered mode_of modes_of apps_of parts_of keeps_limits script_of
 script_on_literals = tt
 
 -- what an answer unfolds to compute the trees and the lines of answers
 unfoldable pub answers_on_literals : ⊤
 unfolding serde_json_on_literals encode_with digits
-    point_tree rect_tree move_tree info_tree frame_tree row_digits surface_tree desc_tree refusal_tree answer_tree
-    line text
+    point_tree rect_tree move_tree info_tree frame_tree row_digits surface_tree desc_tree
+    buffer_tree shape_tree shape_buffer_tree refusal_tree answer_tree line text
 answers_on_literals = tt

@@ -1,6 +1,6 @@
 -- A script's own tree is read as that script: part by part.
-use Rattle.std.proofs.Common.{◌≡◌, ℕ, zero, suc, ◌+◌, ◌*◌, ◌/◌, ◌%◌, ◌^◌, ◌<◌, ◌≤◌, true, Bool, List, [], ◌∷◌, length, get_or, Some, Option, arith, refl, sym, ap, ◌∙◌, option_map}
-use Rattle.std.specs.Prelude.{◌==◌, nat_le, nat_lt, ℤ, pos, negsuc, int_le, map, slice_index_or}
+use Rattle.std.proofs.Common.{◌≡◌, ℕ, zero, suc, ◌+◌, ◌*◌, ◌/◌, ◌%◌, ◌^◌, ◌<◌, ◌≤◌, true, Bool, List, [], ◌∷◌, length, get_or, Some, None, Option, arith, refl, sym, ap, ◌∙◌, option_map, codes}
+use Rattle.std.specs.Prelude.{◌==◌, ◌&&◌, nat_le, nat_lt, ℤ, pos, negsuc, int_le, map, slice_index_or, is_none}
 use Rattle.std.specs.List.{list_all, flat_map}
 use Rattle.std.specs.Int.{w32, byte_at, to_be_bytes, from_be_bytes}
 use Rattle.std.proofs.lemmas.Bool.{and_parts, cond-true, eqb-true, eq-eqb, ltb-true, lt-ltb, leb-true, false≢true}
@@ -10,11 +10,17 @@ use Rattle.std.proofs.lemmas.Nat.{from_be_bytes-to_be_bytes_4}
 use Rattle.hex.specs.Hex.{IsBytes, lower_digits, encode_lower}
 use Rattle.hex.proofs.HexLemmas.{length-encode_with, IsDigits-lower_digits, decode_pairs-encode_with, decode_of-encode_lower}
 use Rattle.hex.proofs.Pairs.{decode_sized-pairs}
-use Rattle.serde_json.specs.Data.{Data}
+use Rattle.serde_json.specs.Data.{Data, string, object, member, no_members}
+use Rattle.serde_json.specs.Find.{get}
 use Rattle.serde_json.specs.View.{items_of}
 use Rattle.dd_geom.specs.declared.rect.Point.{Point}
 use Rattle.dd_geom.specs.declared.rect.Rect.{Rect}
 use Rattle.dd_geom.specs.declared.rect.TheConstants.{MAX_SIDE, MAX_PIXELS}
+use Rattle.dd_pointer.specs.declared.kind.Kind.{Kind}
+use Rattle.dd_pointer.specs.declared.kind.Kind.TheVariants.{Monochrome, Color, MaskedColor}
+use Rattle.dd_pointer.specs.declared.kind.TheConstants.{MAX_HEIGHT, MAX_MASK_HEIGHT}
+use Rattle.dd_pointer.specs.Shape.{PointerShape, number, is_height, shape_fault, IsShape}
+use Rattle.dd_pointer.proofs.Sizes.{has_size, shape_is_read}
 use Rattle.dd_modes.specs.declared.modes.Mode.{Mode}
 use Rattle.dd_modes.specs.declared.modes.Rotation.{Rotation}
 use Rattle.dd_modes.specs.declared.modes.Rotation.TheVariants.{Unspecified, Identity, Rotate90, Rotate180, Rotate270}
@@ -25,13 +31,14 @@ use Rattle.dd_ops.specs.declared.lists.TheConstants.{MAX_OPS}
 use Rattle.dd_log.specs.declared.events.Draw as draws
 use Rattle.dd_log.specs.declared.events.Draw.TheVariants as drawings
 use Rattle.dd_station.specs.declared.steps.ClientCall.{ClientCall}
-use Rattle.dd_station.specs.declared.steps.ClientCall.TheVariants.{Duplicate, Close, Acquire, Release, Surface, Desc}
+use Rattle.dd_station.specs.declared.steps.ClientCall.TheVariants.{Duplicate, Close, Acquire, Release, Moves, Dirty, Shape, Surface, Desc}
 use Rattle.dd_station.specs.declared.steps.Step.{Step}
 use Rattle.dd_station.specs.declared.steps.Step.TheVariants.{Draw, Call}
 use Rattle.dd_station.specs.declared.steps.Script.{Script}
-use Rattle.dd_script.specs.Answers.{count, coordinate, array_of, number_of, point_tree, rect_tree, colour_bytes, row_digits}
-use Rattle.dd_script.specs.Script.{listed, each, u32_of, i32_of, rect_of, point_of, colour_at, colour_of, colours_in, colours_from, colours_of, fill_of, blit_of, scroll_of, operation_of, operations_of, present_of, change_of, switch_of, has_true, session_of, draw_of, call_named, call_of, step_of, steps_of, rotation_numbered, mode_of, modes_of, apps_of, parts_of, keeps_limits, script_of}
-use Rattle.dd_script.specs.Spelling.{colour_tree, colours_tree, op_tree, draw_tree, name_of, step_tree, mode_tree, spelling, is_number, is_coordinate, is_point, is_rectangle, is_colour, is_operation, is_drawing, is_call, is_step, is_readable, IsReadBack}
+use Rattle.dd_script.specs.declared.reading.calls.TheConstants.{MAX_BUFFER}
+use Rattle.dd_script.specs.Answers.{count, coordinate, array_of, part, number_of, point_tree, rect_tree, colour_bytes, row_digits}
+use Rattle.dd_script.specs.Script.{listed, each, u32_of, i32_of, rect_of, point_of, colour_at, colour_of, colours_in, colours_from, bytes_of, colours_of, fill_of, blit_of, cover_of, scroll_of, operation_of, operations_of, present_of, pointer_of, shape_of, change_of, switch_of, has_true, session_of, single_of, draw_of, call_named, filling_named, buffer_of, plain_call_of, filling_call_of, client_call_of, call_of, step_of, steps_of, rotation_numbered, mode_of, modes_of, apps_of, parts_of, keeps_limits, script_of}
+use Rattle.dd_script.specs.Spelling.{colour_tree, colours_tree, op_tree, shape_step_tree, draw_tree, name_of, buffer_given, step_tree, mode_tree, spelling, is_number, is_coordinate, is_point, is_rectangle, is_colour, is_operation, is_byte, is_shape, is_drawing, is_buffer, is_call, is_step, is_readable, IsReadBack}
 use Rattle.dd_script.proofs.InRange.{is_read}
 
 -- ---- lists
@@ -158,7 +165,7 @@ colours_in-back cs h =
     ∙ colour_at-back cs k d h below)
 
 colours_back : (cs : List ℕ) → list_all is_colour cs ≡ true → colours_of (colours_tree cs) ≡ Some cs
-unfolding colours_of colours_from row_digits
+unfolding bytes_of colours_of colours_from row_digits
 colours_back cs h =
     let bytes = flat_map colour_bytes cs in
     let len = length-colours cs in
@@ -166,25 +173,75 @@ colours_back cs h =
     rw (decode_of-encode_lower bytes (IsBytes-colours cs), none_left) (ap Some (colours_in-back cs h))
 
 op_back : (o : Op) → is_operation o ≡ true → operation_of (op_tree o) ≡ Some o
-unfolding op_tree operation_of fill_of blit_of scroll_of
+unfolding op_tree operation_of fill_of blit_of cover_of scroll_of
 op_back (Fill r c) h =
     let both = and_parts (is_rectangle r) (is_colour c) h in
     rw (rect_back r both.0, colour_back c both.1) refl
 op_back (Blit r cs) h =
     let both = and_parts (is_rectangle r) (list_all is_colour cs) h in
     rw (rect_back r both.0, colours_back cs both.1) refl
-op_back (Cover r cs) h = absurd (false≢true h)
+op_back (Cover r cs) h =
+    let both = and_parts (is_rectangle r) (list_all is_colour cs) h in
+    rw (rect_back r both.0, colours_back cs both.1) refl
 op_back (Scroll m) h =
     let both = and_parts (is_point m.source) (is_rectangle m.dest) h in
     rw (rect_back m.dest both.1, point_back m.source both.0) refl
 
+-- bytes that pass are bytes
+IsBytes-all : (bytes : List ℕ) → list_all is_byte bytes ≡ true → IsBytes bytes
+IsBytes-all [] h = λ i. omega arith
+IsBytes-all (b ∷ bytes) h =
+    let both = and_parts (is_byte b) (list_all is_byte bytes) h in
+    IsBytes-cons b bytes (ltb-true _ _ both.0) (IsBytes-all bytes both.1)
+
+-- a shape's kind and height are numbers
+kind_passes : (kind : Kind) → is_number (number kind) ≡ true
+kind_passes Monochrome = refl
+kind_passes Color = refl
+kind_passes MaskedColor = refl
+
+height_passes : (kind : Kind) (n : ℕ) → is_height kind n ≡ true → is_number n ≡ true
+height_passes Monochrome n h =
+    let both = and_parts (nat_le 2 n && nat_le n MAX_MASK_HEIGHT) (n % 2 == 0) h in
+    let few = leb-true n MAX_MASK_HEIGHT (and_parts (nat_le 2 n) (nat_le n MAX_MASK_HEIGHT) both.0).1 in
+    lt-ltb _ _ (omega arith)
+height_passes Color n h =
+    let few = leb-true n MAX_HEIGHT (and_parts (nat_le 1 n) (nat_le n MAX_HEIGHT) h).1 in
+    lt-ltb _ _ (omega arith)
+height_passes MaskedColor n h =
+    let few = leb-true n MAX_HEIGHT (and_parts (nat_le 1 n) (nat_le n MAX_HEIGHT) h).1 in
+    lt-ltb _ _ (omega arith)
+
+nothing : {A : Type 0} (o : Option A) → is_none o ≡ true → o ≡ None
+nothing None h = refl
+nothing (Some x) h = absurd (false≢true h)
+
+shape_back : (s : PointerShape) → is_shape s ≡ true → shape_of (shape_step_tree s) ≡ Some (drawings.Shape s)
+unfolding shape_of bytes_of shape_step_tree
+shape_back s h =
+    let fault = shape_fault s.kind s.width s.height s.bytes in
+    let all = and_parts (is_none fault && is_point s.hot) (list_all is_byte s.bytes) h in
+    let both = and_parts (is_none fault) (is_point s.hot) all.0 in
+    let whole : IsShape s = nothing fault both.0 in
+    let size = has_size s.kind s.width s.height s.bytes whole in
+    let wide : s.width < 2 ^ 32 = omega (arith, size.width) in
+    let kind = number_back (number s.kind) (kind_passes s.kind) in
+    let width = number_back s.width (lt-ltb _ _ wide) in
+    let height = number_back s.height (height_passes s.kind s.height size.height) in
+    let hot = point_back s.hot both.1 in
+    let bytes = decode_of-encode_lower s.bytes (IsBytes-all s.bytes all.1) in
+    rw (kind, width, height, hot, bytes, shape_is_read s whole) refl
+
 draw_back : (d : draws.Draw) → is_drawing d ≡ true → draw_of (draw_tree d) ≡ Some d
-unfolding draw_tree draw_of operations_of present_of change_of switch_of has_true session_of
+unfolding draw_tree draw_of operations_of present_of pointer_of change_of switch_of has_true session_of single_of
+    shape_step_tree
 draw_back (drawings.Present ops) h =
     let both = and_parts (nat_le (length ops) MAX_OPS) (list_all is_operation ops) h in
     let few : nat_le (length (spelled op_tree ops)) MAX_OPS ≡ true =
     ap (λ n. nat_le n MAX_OPS) (length-spelled op_tree ops) ∙ both.0 in
     rw (few, each_back operation_of op_tree is_operation op_back ops both.1) refl
+draw_back (drawings.Pointer position visible) h = rw (point_back position h) refl
+draw_back (drawings.Shape shape) h = shape_back shape h
 draw_back (drawings.Mode index) h = rw (number_back index h) refl
 draw_back (drawings.Switch secure) h = refl
 draw_back drawings.Disconnect h = refl
@@ -192,25 +249,45 @@ draw_back drawings.Reconnect h = refl
 
 -- ---- steps
 
-name_back : (c : ClientCall) → is_call c ≡ true → call_named (name_of c) ≡ Some c
-unfolding call_named
-name_back Duplicate h = refl
-name_back Close h = refl
-name_back (Acquire timeout) h = ap (λ n. Some (Acquire n)) (sym (eqb-true timeout 0 h))
-name_back Release h = refl
-name_back Surface h = refl
-name_back Desc h = refl
+buffer_back : (n : ℕ) → is_buffer n ≡ true → buffer_of (count n) ≡ Some n
+unfolding buffer_of
+buffer_back n h =
+    let few = leb-true n MAX_BUFFER h in
+    rw (number_back n (lt-ltb _ _ (omega arith))) (cond-true _ _ _ h)
+
+call_back : (client : ℕ) (c : ClientCall) → is_call c ≡ true → client_call_of (step_tree (Call client c)) ≡ Some c
+unfolding step_tree client_call_of plain_call_of filling_call_of call_named filling_named
+call_back client Duplicate h = refl
+call_back client Close h = refl
+call_back client (Acquire timeout) h = ap (λ n. Some (Acquire n)) (sym (eqb-true timeout 0 h))
+call_back client Release h = refl
+call_back client (Moves buffer) h = rw (buffer_back buffer h) refl
+call_back client (Dirty buffer) h = rw (buffer_back buffer h) refl
+call_back client (Shape buffer) h = rw (buffer_back buffer h) refl
+call_back client Surface h = refl
+call_back client Desc h = refl
+
+client_back : (buffer : Option Data) (call client : Data)
+    → get (codes "client")
+    (object (part (codes "buffer") buffer (member (codes "call") call (member (codes "client") client no_members))))
+    ≡ Some client
+client_back None call client = refl
+client_back (Some buffer) call client = refl
 
 step_back : (s : Step) → is_step s ≡ true → step_of (step_tree s) ≡ Some s
-unfolding step_tree draw_tree step_of call_of
+unfolding step_tree draw_tree shape_step_tree step_of call_of
 step_back (Draw (drawings.Present ops)) h = ap (option_map Draw) (draw_back (drawings.Present ops) h)
+step_back (Draw (drawings.Pointer position visible)) h =
+    ap (option_map Draw) (draw_back (drawings.Pointer position visible) h)
+step_back (Draw (drawings.Shape shape)) h = ap (option_map Draw) (draw_back (drawings.Shape shape) h)
 step_back (Draw (drawings.Mode index)) h = ap (option_map Draw) (draw_back (drawings.Mode index) h)
 step_back (Draw (drawings.Switch secure)) h = ap (option_map Draw) (draw_back (drawings.Switch secure) h)
 step_back (Draw drawings.Disconnect) h = ap (option_map Draw) (draw_back drawings.Disconnect h)
 step_back (Draw drawings.Reconnect) h = ap (option_map Draw) (draw_back drawings.Reconnect h)
 step_back (Call client call) h =
     let both = and_parts (is_number client) (is_call call) h in
-    rw (number_back client both.0, name_back call both.1) refl
+    let there = client_back (option_map count (buffer_given call)) (string (name_of call)) (count client) in
+    rw (there, number_back client both.0, call_back client call both.1) refl
 
 -- ---- the output
 

@@ -6,13 +6,14 @@ use Rattle.serde_json.specs.Data.{Data, array}
 use Rattle.serde_json.specs.Read.{read}
 use Rattle.serde_json.specs.View.{items_of}
 use Rattle.dd_modes.specs.declared.modes.Rotation.TheVariants.{Identity, Rotate90, Rotate270}
-use Rattle.dd_ops.specs.declared.operations.Op.TheVariants.{Fill, Blit, Scroll}
+use Rattle.dd_pointer.specs.declared.kind.Kind.TheVariants.{Monochrome, MaskedColor}
+use Rattle.dd_ops.specs.declared.operations.Op.TheVariants.{Fill, Blit, Cover, Scroll}
 use Rattle.dd_log.specs.declared.events.Draw.TheVariants.{Present, Switch, Disconnect, Reconnect}
 use Rattle.dd_log.specs.declared.events.Draw.TheVariants as drawings
-use Rattle.dd_station.specs.declared.steps.ClientCall.TheVariants.{Duplicate, Close, Acquire, Surface, Desc}
+use Rattle.dd_station.specs.declared.steps.ClientCall.TheVariants.{Duplicate, Close, Acquire, Moves, Dirty, Shape, Surface, Desc}
 use Rattle.dd_station.specs.declared.steps.Step.TheVariants.{Draw, Call}
 use Rattle.dd_station.specs.declared.steps.Script.{Script}
-use Rattle.dd_script.specs.Script.{rect_of, colour_of, operation_of, operations_of, step_of, steps_of, modes_of, script_of}
+use Rattle.dd_script.specs.Script.{rect_of, colour_of, operation_of, operations_of, draw_of, step_of, steps_of, modes_of, script_of}
 use Rattle.dd_script.proofs.OnLiterals.{script_on_literals}
 
 -- what a text is, where its tree is read by f
@@ -148,6 +149,12 @@ no_colour : read_by operation_of (codes "{\"colours\":\"\",\"blit\":[1,0,3,1]}")
 unfolding script_on_literals
 no_colour = refl
 
+-- a cover's sides, each another number
+covered : read_by operation_of (codes "{\"cover\":[1,2,3,4],\"colours\":\"00FF00\"}")
+    ≡ Some (Cover (record { left = pos 1; top = pos 2; right = pos 3; bottom = pos 4 }) (0x00ff00 ∷ []))
+unfolding script_on_literals
+covered = refl
+
 scroll_from_outside : read_by operation_of (codes "{\"scroll\":[-2,-1,4,3],\"from\":[-2147483648,5]}")
     ≡ Some (Scroll (record {
       source = record { x = negsuc 2147483647; y = pos 5 };
@@ -162,9 +169,11 @@ no_operations : are_refused operation_of
     ∷ codes "{\"scroll\":[0,0,4,3],\"from\":[0,0],\"at\":0}"
     ∷ codes "{\"drop\":[0,0,1,1]}"
     ∷ codes "{\"scroll\":[0,0,1,1]}"
-    ∷ codes "{\"cover\":[0,0,1,1],\"colours\":\"000000\"}"
     ∷ codes "{\"blit\":[0,0,1,1],\"colour\":\"abcdef\"}"
     ∷ codes "{\"fill\":[0,0,1,1],\"blit\":[0,0,1,1]}"
+    ∷ codes "{\"cover\":[0,0,1,1],\"colour\":\"abcdef\"}"
+    ∷ codes "{\"cover\":[0,0,1,1],\"colours\":\"abcdef\",\"from\":[0,0]}"
+    ∷ codes "{\"cover\":[0,0,1,1],\"colours\":\"abcde\"}"
     -- seven digits, eight and ten, and one that is none
     ∷ codes "{\"blit\":[0,0,2,1],\"colours\":\"abcdef0\"}"
     ∷ codes "{\"blit\":[0,0,2,1],\"colours\":\"abcdef00\"}"
@@ -196,16 +205,69 @@ no_operation : read_by step_of (codes "{\"present\":[]}") ≡ Some (Draw (Presen
 unfolding script_on_literals
 no_operation = refl
 
+-- the pointer, at the ends of the coordinates' range
+pointer_given : read_by draw_of (codes "{\"pointer\":[-2147483648,2147483647],\"visible\":false}")
+    ≡ Some (drawings.Pointer (record { x = negsuc 2147483647; y = pos 2147483647 }) false)
+unfolding script_on_literals
+pointer_given = refl
+
+-- two columns of two rows under two masks, and a pixel with its mask: each number is another one
+masks_of_two_rows : read_by draw_of (codes "{\"shape\":1,\"width\":2,\"height\":4,\"hot\":[1,3],\"bytes\":\"C0008080\"}")
+    ≡ Some (drawings.Shape (record {
+      kind = Monochrome;
+      width = 2;
+      height = 4;
+      hot = record { x = pos 1; y = pos 3 };
+      bytes = 0xc0 ∷ 0 ∷ 0x80 ∷ 0x80 ∷ [];
+    }))
+unfolding script_on_literals
+masks_of_two_rows = refl
+
+masked_pixel : read_by draw_of (codes "{\"bytes\":\"0102fEff\",\"height\":1,\"hot\":[-1,-2],\"width\":1,\"shape\":4}")
+    ≡ Some (drawings.Shape (record {
+      kind = MaskedColor;
+      width = 1;
+      height = 1;
+      hot = record { x = negsuc 0; y = negsuc 1 };
+      bytes = 1 ∷ 2 ∷ 254 ∷ 255 ∷ [];
+    }))
+unfolding script_on_literals
+masked_pixel = refl
+
+-- a kind, a width and heights that no shape has, three bytes and five, seven digits, one that is none, a bad mask
+no_shapes : are_refused draw_of
+    (codes "{\"shape\":3,\"width\":2,\"height\":4,\"hot\":[1,3],\"bytes\":\"c0008080\"}"
+    ∷ codes "{\"shape\":1,\"width\":257,\"height\":4,\"hot\":[1,3],\"bytes\":\"c0008080\"}"
+    ∷ codes "{\"shape\":1,\"width\":2,\"height\":3,\"hot\":[1,3],\"bytes\":\"c00080\"}"
+    ∷ codes "{\"shape\":1,\"width\":2,\"height\":0,\"hot\":[1,3],\"bytes\":\"\"}"
+    ∷ codes "{\"shape\":1,\"width\":2,\"height\":4,\"hot\":[1,3],\"bytes\":\"c00080\"}"
+    ∷ codes "{\"shape\":1,\"width\":2,\"height\":4,\"hot\":[1,3],\"bytes\":\"c000808000\"}"
+    ∷ codes "{\"shape\":1,\"width\":2,\"height\":4,\"hot\":[1,3],\"bytes\":\"c000808\"}"
+    ∷ codes "{\"shape\":1,\"width\":2,\"height\":4,\"hot\":[1,3],\"bytes\":\"c000808x\"}"
+    ∷ codes "{\"shape\":4,\"width\":1,\"height\":1,\"hot\":[1,3],\"bytes\":\"0f0f0f01\"}"
+    -- a kind past the greatest number, a hot spot of one number, bytes that are no text, four keys, six
+    ∷ codes "{\"shape\":4294967297,\"width\":2,\"height\":4,\"hot\":[1,3],\"bytes\":\"c0008080\"}"
+    ∷ codes "{\"shape\":1,\"width\":2,\"height\":4,\"hot\":[1],\"bytes\":\"c0008080\"}"
+    ∷ codes "{\"shape\":1,\"width\":2,\"height\":4,\"hot\":[1,3],\"bytes\":0}"
+    ∷ codes "{\"shape\":1,\"width\":2,\"height\":4,\"bytes\":\"c0008080\"}"
+    ∷ codes "{\"shape\":1,\"width\":2,\"height\":4,\"hot\":[1,3],\"bytes\":\"c0008080\",\"visible\":true}"
+    ∷ []) ≡ true
+unfolding script_on_literals
+no_shapes = refl
+
 -- what is drawn beside presents, and calls anywhere in a list
-steps_of_each_kind : read_by steps_of (codes "[{\"mode\":4294967295},{\"switch\":false},{\"disconnect\":true},{\"reconnect\":true},{\"call\":\"close\",\"client\":16},{\"client\":2,\"call\":\"desc\"},{\"client\":1,\"call\":\"duplicate\"}]")
-    ≡ Some (Draw (drawings.Mode 4294967295) ∷ Draw (Switch false) ∷ Draw Disconnect ∷ Draw Reconnect ∷ Call 16 Close ∷ Call 2 Desc ∷ Call 1 Duplicate ∷ [])
+steps_of_each_kind : read_by steps_of (codes "[{\"mode\":4294967295},{\"switch\":false},{\"disconnect\":true},{\"reconnect\":true},{\"call\":\"close\",\"client\":16},{\"client\":2,\"call\":\"desc\"},{\"client\":1,\"call\":\"duplicate\"},{\"pointer\":[3,2],\"visible\":true},{\"client\":3,\"call\":\"moves\",\"buffer\":0},{\"buffer\":15,\"call\":\"dirty\",\"client\":4},{\"client\":5,\"call\":\"shape\",\"buffer\":524288}]")
+    ≡ Some
+    (Draw (drawings.Mode 4294967295) ∷ Draw (Switch false) ∷ Draw Disconnect ∷ Draw Reconnect
+    ∷ Call 16 Close ∷ Call 2 Desc ∷ Call 1 Duplicate
+    ∷ Draw (drawings.Pointer (record { x = pos 3; y = pos 2 }) true)
+    ∷ Call 3 (Moves 0) ∷ Call 4 (Dirty 15) ∷ Call 5 (Shape 524288) ∷ [])
 unfolding script_on_literals
 steps_of_each_kind = refl
 
 -- an unknown call, a call that is no text, a timeout, a present beside a client, a further key
 no_steps : are_refused step_of
-    (codes "{\"client\":1,\"call\":\"moves\"}"
-    ∷ codes "{\"client\":1,\"call\":\"dirty\",\"buffer\":0}"
+    (codes "{\"client\":1,\"call\":\"hide\"}"
     ∷ codes "{\"client\":1,\"call\":0}"
     ∷ codes "{\"client\":1,\"call\":\"acquire\",\"timeout\":0}"
     ∷ codes "{\"client\":1,\"present\":[]}"
@@ -221,8 +283,20 @@ no_steps : are_refused step_of
     ∷ codes "{\"reconnect\":1}"
     ∷ codes "{\"disconnect\":true,\"reconnect\":true}"
     ∷ codes "{\"mode\":0,\"switch\":true}"
-    ∷ codes "{\"pointer\":[0,0],\"visible\":true}"
     ∷ codes "{\"end\":true}"
+    -- a pointer of three numbers, one that isn't told to be visible or not, one that is told so by a number, further keys
+    ∷ codes "{\"pointer\":[0,0,0],\"visible\":true}"
+    ∷ codes "{\"pointer\":[0,0]}"
+    ∷ codes "{\"pointer\":[0,0],\"visible\":1}"
+    ∷ codes "{\"pointer\":[0,0],\"visible\":true,\"shape\":1}"
+    ∷ codes "{\"pointer\":[0,0],\"present\":[]}"
+    -- a buffer past the greatest, below 0, that is missing, of a call that is given none, and a further key
+    ∷ codes "{\"client\":1,\"call\":\"shape\",\"buffer\":524289}"
+    ∷ codes "{\"client\":1,\"call\":\"dirty\",\"buffer\":-1}"
+    ∷ codes "{\"client\":1,\"call\":\"moves\"}"
+    ∷ codes "{\"client\":1,\"call\":\"desc\",\"buffer\":0}"
+    ∷ codes "{\"client\":1,\"call\":\"hide\",\"buffer\":0}"
+    ∷ codes "{\"client\":1,\"call\":\"moves\",\"buffer\":0,\"timeout\":0}"
     ∷ []) ≡ true
 unfolding script_on_literals
 no_steps = refl

@@ -9,6 +9,7 @@ use Rattle.serde_json.specs.View.{items_of}
 use Rattle.dd_geom.specs.declared.rect.Point.{Point}
 use Rattle.dd_geom.specs.declared.rect.Rect.{Rect}
 use Rattle.dd_geom.specs.declared.rect.Move.{Move}
+use Rattle.dd_pointer.specs.declared.shape.ShapeInfo.{ShapeInfo}
 use Rattle.dd_modes.specs.declared.modes.Mode.{Mode}
 use Rattle.dd_modes.specs.declared.modes.Rotation.{Rotation}
 use Rattle.dd_modes.specs.declared.modes.Rotation.TheVariants.{Unspecified, Identity, Rotate90, Rotate180, Rotate270}
@@ -34,6 +35,10 @@ coordinate z = number (of_integer z)
 -- a list, each of its parts as f says
 abbrev pub array_of : {T : Type 0} → (T → Data) → List T → Data
 array_of f xs = array (items_of (map f xs))
+
+-- bytes as their digits in lower case, two for each
+abbrev pub bytes_tree : List ℕ → Data
+bytes_tree bytes = string (encode_lower bytes)
 
 -- ---- frames
 
@@ -117,10 +122,42 @@ desc_tree m =
     (member (codes "width") (count m.width)
     no_members)))
 
+-- ---- buffers
+
+-- a whole buffer, and how many of its bytes were put there
+unfoldable pub buffer_tree : List ℕ → ℕ → Data
+buffer_tree bytes size =
+    object (member (codes "buffer") (bytes_tree bytes) (member (codes "size") (count size) no_members))
+
+-- what is told of a shape
+unfoldable pub shape_tree : ShapeInfo → Data
+shape_tree i =
+    object
+    (member (codes "height") (count i.height)
+    (member (codes "hot") (point_tree i.hot)
+    (member (codes "kind") (count i.kind)
+    (member (codes "pitch") (count i.pitch)
+    (member (codes "width") (count i.width)
+    no_members)))))
+
+-- or null where there is no new shape
+abbrev pub new_shape_tree : Option ShapeInfo → Data
+new_shape_tree None = null
+new_shape_tree (Some info) = shape_tree info
+
+unfoldable pub shape_buffer_tree : List ℕ → Option ShapeInfo → ℕ → Data
+shape_buffer_tree bytes shape size =
+    object
+    (member (codes "buffer") (bytes_tree bytes)
+    (member (codes "info") (new_shape_tree shape)
+    (member (codes "size") (count size)
+    no_members)))
+
 -- ---- refusals
 
 -- the codes, as eight hexadecimal digits: DXGI_ERROR_ACCESS_LOST, DXGI_ERROR_INVALID_CALL, DXGI_ERROR_WAIT_TIMEOUT,
--- E_ACCESSDENIED, DXGI_ERROR_NOT_CURRENTLY_AVAILABLE, DXGI_ERROR_SESSION_DISCONNECTED and E_INVALIDARG
+-- DXGI_ERROR_MORE_DATA, E_ACCESSDENIED, DXGI_ERROR_NOT_CURRENTLY_AVAILABLE, DXGI_ERROR_SESSION_DISCONNECTED and
+-- E_INVALIDARG
 abbrev pub access_lost : List ℕ
 access_lost = codes "887a0026"
 
@@ -129,6 +166,9 @@ invalid_call = codes "887a0001"
 
 abbrev pub wait_timeout : List ℕ
 wait_timeout = codes "887a0027"
+
+abbrev pub more_data : List ℕ
+more_data = codes "887a0003"
 
 abbrev pub access_denied : List ℕ
 access_denied = codes "80070005"
@@ -158,19 +198,21 @@ pub record Refusal : Type 0 where
   pub code : Option (List ℕ)
   pub op : Option ℕ
   pub buffer : Option (List ℕ)
+  pub required : Option ℕ
 
 -- a refusal that has its name alone
 abbrev pub named : List ℕ → Refusal
-named name = record { name = name; code = None; op = None; buffer = None }
+named name = record { name = name; code = None; op = None; buffer = None; required = None }
 
 unfoldable pub refusal_tree : Refusal → Data
 refusal_tree r =
     object
-    (part (codes "buffer") (option_map (λ bytes. string (encode_lower bytes)) r.buffer)
+    (part (codes "buffer") (option_map bytes_tree r.buffer)
     (part (codes "code") (option_map string r.code)
     (part (codes "op") (option_map count r.op)
     (member (codes "refused") (string r.name)
-    no_members))))
+    (part (codes "required") (option_map count r.required)
+    no_members)))))
 
 abbrev pub refused_drawing : LogRefusal → Refusal
 refused_drawing drawing.Ended = named (codes "Ended")
@@ -200,6 +242,8 @@ refused_call call.InvalidCall buffer =
     record (named (codes "InvalidCall")) { code = Some invalid_call; buffer = buffer }
 refused_call call.WaitTimeout buffer =
     record (named (codes "WaitTimeout")) { code = Some wait_timeout; buffer = buffer }
+refused_call (call.MoreData required) buffer =
+    record (named (codes "MoreData")) { code = Some more_data; buffer = buffer; required = Some required }
 refused_call call.OutOfMemory buffer = record (named (codes "OutOfMemory")) { buffer = buffer }
 
 -- a call of a client that has no duplicator
@@ -220,6 +264,8 @@ answer_tree (answer.Frame info moves dirt) = frame_tree info moves dirt
 answer_tree answer.Released = object (member (codes "released") (boolean true) no_members)
 answer_tree (answer.Surface rows) = surface_tree rows
 answer_tree (answer.Desc mode) = desc_tree mode
+answer_tree (answer.Buffer size bytes) = buffer_tree bytes size
+answer_tree (answer.ShapeBuffer size bytes shape) = shape_buffer_tree bytes shape size
 answer_tree (answer.Refused refusal buffer) = refusal_tree (refused_call refusal buffer)
 answer_tree answer.NoDuplicator = refusal_tree refused_client
 

@@ -14,19 +14,21 @@ use Rattle.dd_modes.specs.declared.modes.Mode.{Mode}
 use Rattle.dd_modes.specs.declared.modes.Rotation.{Rotation}
 use Rattle.dd_modes.specs.declared.modes.Rotation.TheVariants.{Unspecified, Identity, Rotate90, Rotate180, Rotate270}
 use Rattle.dd_modes.specs.Modes.{are_modes}
+use Rattle.dd_pointer.specs.Shape.{reading}
 use Rattle.dd_ops.specs.declared.operations.Op.{Op}
-use Rattle.dd_ops.specs.declared.operations.Op.TheVariants.{Fill, Blit, Scroll}
+use Rattle.dd_ops.specs.declared.operations.Op.TheVariants.{Fill, Blit, Cover, Scroll}
 use Rattle.dd_ops.specs.declared.lists.TheConstants.{MAX_OPS}
 use Rattle.dd_log.specs.declared.events.Draw as draws
 use Rattle.dd_log.specs.declared.events.Draw.TheVariants as drawings
 use Rattle.dd_station.specs.declared.steps.ClientCall.{ClientCall}
-use Rattle.dd_station.specs.declared.steps.ClientCall.TheVariants.{Duplicate, Close, Acquire, Release, Surface, Desc}
+use Rattle.dd_station.specs.declared.steps.ClientCall.TheVariants.{Duplicate, Close, Acquire, Release, Moves, Dirty, Shape, Surface, Desc}
 use Rattle.dd_station.specs.declared.steps.Step.{Step}
 use Rattle.dd_station.specs.declared.steps.Step.TheVariants.{Draw, Call}
 use Rattle.dd_station.specs.declared.steps.Script.{Script}
 use Rattle.dd_station.specs.Run.{IsOfClient}
 use Rattle.dd_log.specs.declared.events.TheConstants.{MAX_CAPACITY, MAX_PRIVILEGED}
 use Rattle.dd_station.specs.declared.steps.TheConstants.{MAX_CLIENTS}
+use Rattle.dd_script.specs.declared.reading.calls.TheConstants.{MAX_BUFFER}
 
 -- the second step, where the first gave a value
 infixl 10 ◌>>=◌
@@ -118,11 +120,16 @@ colours_in bytes = map (colour_at bytes) (range_with_len 0 (length bytes / 3))
 unfoldable pub colours_from : List ℕ → Option (List ℕ)
 colours_from bytes = if length bytes % 3 == 0 then Some (colours_in bytes) else None
 
+-- hexadecimal digits, two for each byte
+unfoldable pub bytes_of : Data → Option (List ℕ)
+bytes_of d = do
+  text ← as_str d
+  result_ok (decode_of text)
+
 -- hexadecimal digits, six for each colour
 unfoldable pub colours_of : Data → Option (List ℕ)
 colours_of d = do
-  text ← as_str d
-  bytes ← result_ok (decode_of text)
+  bytes ← bytes_of d
   colours_from bytes
 
 -- {"fill":R,"colour":colour}
@@ -139,6 +146,13 @@ blit_of d = do
   colours ← get (codes "colours") d >>= colours_of
   Some (Blit rect colours)
 
+-- {"cover":R,"colours":colours}
+unfoldable pub cover_of : Data → Option Op
+cover_of d = do
+  rect ← get (codes "cover") d >>= rect_of
+  colours ← get (codes "colours") d >>= colours_of
+  Some (Cover rect colours)
+
 -- {"scroll":R,"from":[x,y]}: the destination, and the source's point
 unfoldable pub scroll_of : Data → Option Op
 scroll_of d = do
@@ -152,6 +166,7 @@ operation_of d =
     if has_keys 2 d then (
     if is_some (get (codes "fill") d) then fill_of d
     else if is_some (get (codes "blit") d) then blit_of d
+    else if is_some (get (codes "cover") d) then cover_of d
     else scroll_of d) else None
 
 -- 0 to 64 operations
@@ -165,6 +180,24 @@ unfoldable pub present_of : Data → Option draws.Draw
 present_of d = do
   ops ← get (codes "present") d >>= operations_of
   Some (drawings.Present ops)
+
+-- {"pointer":[x,y],"visible":visible}
+unfoldable pub pointer_of : Data → Option draws.Draw
+pointer_of d = if has_keys 2 d then (do
+  position ← get (codes "pointer") d >>= point_of
+  visible ← get (codes "visible") d >>= as_bool
+  Some (drawings.Pointer position visible)) else None
+
+-- {"shape":kind,"width":width,"height":height,"hot":[x,y],"bytes":bytes}, where these parts are a shape
+unfoldable pub shape_of : Data → Option draws.Draw
+shape_of d = if has_keys 5 d then (do
+  kind ← get (codes "shape") d >>= u32_of
+  width ← get (codes "width") d >>= u32_of
+  height ← get (codes "height") d >>= u32_of
+  hot ← get (codes "hot") d >>= point_of
+  bytes ← get (codes "bytes") d >>= bytes_of
+  shape ← result_ok (reading kind width height hot bytes)
+  Some (drawings.Shape shape)) else None
 
 -- {"mode":index}
 unfoldable pub change_of : Data → Option draws.Draw
@@ -189,14 +222,21 @@ session_of d =
     else if has_true (codes "reconnect") d then Some drawings.Reconnect
     else None
 
--- a drawing has one key, which tells its kind
-unfoldable pub draw_of : Data → Option draws.Draw
-draw_of d =
+-- a drawing of one key, which tells its kind
+unfoldable pub single_of : Data → Option draws.Draw
+single_of d =
     if has_keys 1 d then (
     if is_some (get (codes "present") d) then present_of d
     else if is_some (get (codes "mode") d) then change_of d
     else if is_some (get (codes "switch") d) then switch_of d
     else session_of d) else None
+
+-- a pointer, a shape, or a drawing of one key
+unfoldable pub draw_of : Data → Option draws.Draw
+draw_of d =
+    if is_some (get (codes "pointer") d) then pointer_of d
+    else if is_some (get (codes "shape") d) then shape_of d
+    else single_of d
 
 -- ---- steps
 
@@ -211,13 +251,43 @@ call_named name =
     else if bytes_eq name (codes "desc") then Some Desc
     else None
 
+-- a call that is given a buffer of so many bytes
+unfoldable pub filling_named : List ℕ → ℕ → Option ClientCall
+filling_named name buffer =
+    if bytes_eq name (codes "moves") then Some (Moves buffer)
+    else if bytes_eq name (codes "dirty") then Some (Dirty buffer)
+    else if bytes_eq name (codes "shape") then Some (Shape buffer)
+    else None
+
+-- a buffer's bytes: a whole number from 0 to 524288
+unfoldable pub buffer_of : Data → Option ℕ
+buffer_of d = do
+  n ← u32_of d
+  if nat_le n MAX_BUFFER then Some n else None
+
 -- {"client":k,"call":name}
-unfoldable pub call_of : Data → Option Step
-call_of d = if has_keys 2 d then (do
-  client ← get (codes "client") d >>= u32_of
+unfoldable pub plain_call_of : Data → Option ClientCall
+plain_call_of d = if has_keys 2 d then (do
   name ← get (codes "call") d >>= as_str
-  call ← call_named name
-  Some (Call client call)) else None
+  call_named name) else None
+
+-- {"client":k,"call":name,"buffer":bytes}
+unfoldable pub filling_call_of : Data → Option ClientCall
+filling_call_of d = if has_keys 3 d then (do
+  name ← get (codes "call") d >>= as_str
+  buffer ← get (codes "buffer") d >>= buffer_of
+  filling_named name buffer) else None
+
+-- a call with a buffer where there is one
+unfoldable pub client_call_of : Data → Option ClientCall
+client_call_of d = if is_some (get (codes "buffer") d) then filling_call_of d else plain_call_of d
+
+-- the client's number, and its call
+unfoldable pub call_of : Data → Option Step
+call_of d = do
+  client ← get (codes "client") d >>= u32_of
+  call ← client_call_of d
+  Some (Call client call)
 
 -- a call where there is a client, else a drawing
 unfoldable pub step_of : Data → Option Step

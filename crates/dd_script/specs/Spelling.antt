@@ -1,5 +1,5 @@
 -- A script's own tree: each part in the one form that a writer gives it, an object's keys in the order of their bytes.
-use Rattle.std.specs.Prelude.{◌≡◌, ℕ, ◌^◌, ℤ, pos, negsuc, int_le, nat_lt, nat_le, ◌==◌, Bool, true, false, ◌&&◌, codes, List, length, Some}
+use Rattle.std.specs.Prelude.{◌≡◌, ℕ, ◌^◌, ℤ, pos, negsuc, int_le, nat_lt, nat_le, ◌==◌, Bool, true, ◌&&◌, codes, List, length, Option, Some, None, is_none, option_map}
 use Rattle.std.specs.List.{list_all}
 use Rattle.hex.specs.Hex.{encode_lower}
 use Rattle.serde_json.specs.Data.{Data, boolean, string, array, object, item, no_items, member, no_members}
@@ -7,6 +7,7 @@ use Rattle.dd_geom.specs.declared.rect.Point.{Point}
 use Rattle.dd_geom.specs.declared.rect.Rect.{Rect}
 use Rattle.dd_modes.specs.declared.modes.Mode.{Mode}
 use Rattle.dd_modes.specs.Modes.{are_modes}
+use Rattle.dd_pointer.specs.Shape.{PointerShape, number, shape_fault}
 use Rattle.dd_ops.specs.declared.operations.Op.{Op}
 use Rattle.dd_ops.specs.declared.operations.Op.TheVariants.{Fill, Blit, Cover, Scroll}
 use Rattle.dd_grid.specs.declared.cell.TheConstants.{COLOURS}
@@ -14,11 +15,12 @@ use Rattle.dd_ops.specs.declared.lists.TheConstants.{MAX_OPS}
 use Rattle.dd_log.specs.declared.events.Draw as draws
 use Rattle.dd_log.specs.declared.events.Draw.TheVariants as drawings
 use Rattle.dd_station.specs.declared.steps.ClientCall.{ClientCall}
-use Rattle.dd_station.specs.declared.steps.ClientCall.TheVariants.{Duplicate, Close, Acquire, Release, Surface, Desc}
+use Rattle.dd_station.specs.declared.steps.ClientCall.TheVariants.{Duplicate, Close, Acquire, Release, Moves, Dirty, Shape, Surface, Desc}
 use Rattle.dd_station.specs.declared.steps.Step.{Step}
 use Rattle.dd_station.specs.declared.steps.Step.TheVariants.{Draw, Call}
 use Rattle.dd_station.specs.declared.steps.Script.{Script}
-use Rattle.dd_script.specs.Answers.{count, array_of, number_of, point_tree, rect_tree, colour_bytes, row_digits}
+use Rattle.dd_script.specs.declared.reading.calls.TheConstants.{MAX_BUFFER}
+use Rattle.dd_script.specs.Answers.{count, array_of, part, number_of, point_tree, rect_tree, colour_bytes, row_digits, bytes_tree}
 use Rattle.dd_script.specs.Script.{keeps_limits, script_of}
 
 -- ---- drawing
@@ -41,8 +43,22 @@ op_tree (Cover r cs) =
 op_tree (Scroll m) =
     object (member (codes "from") (point_tree m.source) (member (codes "scroll") (rect_tree m.dest) no_members))
 
+-- a shape's kind as the API numbers it, and its bytes in digits
+unfoldable pub shape_step_tree : PointerShape → Data
+shape_step_tree s =
+    object
+    (member (codes "bytes") (bytes_tree s.bytes)
+    (member (codes "height") (count s.height)
+    (member (codes "hot") (point_tree s.hot)
+    (member (codes "shape") (count (number s.kind))
+    (member (codes "width") (count s.width)
+    no_members)))))
+
 unfoldable pub draw_tree : draws.Draw → Data
 draw_tree (drawings.Present ops) = object (member (codes "present") (array_of op_tree ops) no_members)
+draw_tree (drawings.Pointer position visible) =
+    object (member (codes "pointer") (point_tree position) (member (codes "visible") (boolean visible) no_members))
+draw_tree (drawings.Shape shape) = shape_step_tree shape
 draw_tree (drawings.Mode index) = object (member (codes "mode") (count index) no_members)
 draw_tree (drawings.Switch secure) = object (member (codes "switch") (boolean secure) no_members)
 draw_tree drawings.Disconnect = object (member (codes "disconnect") (boolean true) no_members)
@@ -55,13 +71,32 @@ name_of Duplicate = codes "duplicate"
 name_of Close = codes "close"
 name_of (Acquire timeout) = codes "acquire"
 name_of Release = codes "release"
+name_of (Moves buffer) = codes "moves"
+name_of (Dirty buffer) = codes "dirty"
+name_of (Shape buffer) = codes "shape"
 name_of Surface = codes "surface"
 name_of Desc = codes "desc"
+
+-- the bytes of the buffer that a call is given
+abbrev pub buffer_given : ClientCall → Option ℕ
+buffer_given Duplicate = None
+buffer_given Close = None
+buffer_given (Acquire timeout) = None
+buffer_given Release = None
+buffer_given (Moves buffer) = Some buffer
+buffer_given (Dirty buffer) = Some buffer
+buffer_given (Shape buffer) = Some buffer
+buffer_given Surface = None
+buffer_given Desc = None
 
 unfoldable pub step_tree : Step → Data
 step_tree (Draw drawing) = draw_tree drawing
 step_tree (Call client call) =
-    object (member (codes "call") (string (name_of call)) (member (codes "client") (count client) no_members))
+    object
+    (part (codes "buffer") (option_map count (buffer_given call))
+    (member (codes "call") (string (name_of call))
+    (member (codes "client") (count client)
+    no_members)))
 
 -- ---- the output
 
@@ -100,19 +135,32 @@ is_rectangle r = is_coordinate r.left && is_coordinate r.top && is_coordinate r.
 abbrev pub is_colour : ℕ → Bool
 is_colour c = nat_lt c COLOURS
 
--- no text has a cover
 abbrev pub is_operation : Op → Bool
 is_operation (Fill r c) = is_rectangle r && is_colour c
 is_operation (Blit r cs) = is_rectangle r && list_all is_colour cs
-is_operation (Cover r cs) = false
+is_operation (Cover r cs) = is_rectangle r && list_all is_colour cs
 is_operation (Scroll m) = is_point m.source && is_rectangle m.dest
+
+-- from 0 to 255
+abbrev pub is_byte : ℕ → Bool
+is_byte n = nat_lt n 256
+
+-- a shape with no fault, of bytes, with a hot spot in the range of coordinates
+abbrev pub is_shape : PointerShape → Bool
+is_shape s = is_none (shape_fault s.kind s.width s.height s.bytes) && is_point s.hot && list_all is_byte s.bytes
 
 abbrev pub is_drawing : draws.Draw → Bool
 is_drawing (drawings.Present ops) = nat_le (length ops) MAX_OPS && list_all is_operation ops
+is_drawing (drawings.Pointer position visible) = is_point position
+is_drawing (drawings.Shape shape) = is_shape shape
 is_drawing (drawings.Mode index) = is_number index
 is_drawing (drawings.Switch secure) = true
 is_drawing drawings.Disconnect = true
 is_drawing drawings.Reconnect = true
+
+-- a buffer's bytes, from 0 to 524288
+abbrev pub is_buffer : ℕ → Bool
+is_buffer n = nat_le n MAX_BUFFER
 
 -- an acquire has no timeout
 abbrev pub is_call : ClientCall → Bool
@@ -120,6 +168,9 @@ is_call Duplicate = true
 is_call Close = true
 is_call (Acquire timeout) = timeout == 0
 is_call Release = true
+is_call (Moves buffer) = is_buffer buffer
+is_call (Dirty buffer) = is_buffer buffer
+is_call (Shape buffer) = is_buffer buffer
 is_call Surface = true
 is_call Desc = true
 

@@ -7,6 +7,6 @@ mod text;
 mod writing;
 
 pub use fault::ScriptFault;
-pub use reading::{one_tree, read_steps, reading_undoes_spelling};
+pub use reading::{MAX_BUFFER, one_tree, read_steps, reading_undoes_spelling};
 pub use text::Text;
 pub use writing::answer_text;

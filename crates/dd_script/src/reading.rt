@@ -4,6 +4,7 @@ mod calls;
 mod drawing;
 mod limits;
 mod output;
+mod pointer;
 #[cfg(test)]
 mod tests;
 mod tree;
@@ -21,6 +22,7 @@ use crate::reading::calls::steps_of;
 use crate::reading::limits::keeps_limits;
 use crate::reading::output::{apps_of, modes_of};
 use crate::reading::tree::{has_keys, member, u32_of};
+pub use calls::MAX_BUFFER;
 use dd_log::Spec;
 use dd_station::Script;
 use serde_json::Value;

@@ -1,6 +1,7 @@
 //! Answers as lines of JSON.
 
 mod answers;
+mod buffers;
 mod frames;
 mod refusals;
 mod surfaces;

@@ -3,3 +3,4 @@ pub mod Kept
 pub mod Stepped
 pub mod Unnumbered
 pub mod Independence
+pub mod Veiling

@@ -11,6 +11,6 @@ mod steps;
 mod tests;
 
 pub use dd_log::Answer;
-pub use laws::clients_are_independent;
+pub use laws::{clients_are_independent, hidden_content};
 pub use station::Station;
 pub use steps::{ClientCall, MAX_CLIENTS, Script, Step, Steps};

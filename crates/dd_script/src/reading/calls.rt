@@ -3,7 +3,8 @@
 ghost use Rattle.std.specs.Prelude.{◌≡◌, map};
 ghost use Rattle.serde_json.specs.View.{view};
 ghost use Rattle.dd_script.specs.Reading.{Gives};
-ghost use Rattle.dd_script.specs.Script.{each, call_named, call_of, step_of, steps_of};
+ghost use Rattle.dd_script.specs.Script.{each, call_named, filling_named, buffer_of, plain_call_of, filling_call_of};
+ghost use Rattle.dd_script.specs.Script.{client_call_of, call_of, step_of, steps_of};
 
 use crate::fault::ScriptFault;
 use crate::reading::drawing::draw_of;
@@ -11,6 +12,9 @@ use crate::reading::tree::{has_keys, list_of, u32_of};
 use dd_station::{ClientCall, Step, Steps};
 use serde_json::Value;
 use std::alloc::Global;
+
+/// The most bytes of a buffer that a call is given.
+pub const MAX_BUFFER: u32 = 524_288;
 
 /// A call by its name. In one list of steps an acquire has no timeout of its own.
 #[tactic(auto, unfolding(crate::specs::Script::call_named))]
@@ -28,16 +32,75 @@ fn call_named(name: &str) -> Option<ClientCall>
     }
 }
 
+/// A call that is given a buffer of so many bytes, by its name.
+#[tactic(auto, unfolding(crate::specs::Script::filling_named))]
+fn filling_named(name: &str, buffer: u32) -> Option<ClientCall>
+    ensures { result ≡ filling_named name.now buffer }
+{
+    match name {
+        "moves" => Some(ClientCall::Moves { buffer }),
+        "dirty" => Some(ClientCall::Dirty { buffer }),
+        "shape" => Some(ClientCall::Shape { buffer }),
+        _ => None,
+    }
+}
+
+/// A buffer's bytes: a whole number from 0 to 524288.
+#[tactic(auto, unfolding(crate::specs::Script::buffer_of))]
+fn buffer_of(tree: &Value) -> Option<u32>
+    ensures { result ≡ buffer_of (view tree.now) }
+{
+    let bytes = u32_of(tree)?;
+    if bytes <= MAX_BUFFER {
+        Some(bytes)
+    } else {
+        None
+    }
+}
+
 /// `{"client":k,"call":name}`.
-#[tactic(auto, unfolding(crate::specs::Script::call_of))]
-fn call_of(tree: &Value) -> Option<Step>
-    ensures { result ≡ call_of (view tree.now) }
+#[tactic(auto, unfolding(crate::specs::Script::plain_call_of))]
+fn plain_call_of(tree: &Value) -> Option<ClientCall>
+    ensures { result ≡ plain_call_of (view tree.now) }
 {
     if !has_keys(tree, 2) {
         return None;
     }
+    call_named(tree.get("call")?.as_str()?)
+}
+
+/// `{"client":k,"call":name,"buffer":bytes}`.
+#[tactic(auto, unfolding(crate::specs::Script::filling_call_of))]
+fn filling_call_of(tree: &Value) -> Option<ClientCall>
+    ensures { result ≡ filling_call_of (view tree.now) }
+{
+    if !has_keys(tree, 3) {
+        return None;
+    }
+    let name = tree.get("call")?.as_str()?;
+    let buffer = buffer_of(tree.get("buffer")?)?;
+    filling_named(name, buffer)
+}
+
+/// A call with a buffer where there is one.
+#[tactic(auto, unfolding(crate::specs::Script::client_call_of))]
+fn client_call_of(tree: &Value) -> Option<ClientCall>
+    ensures { result ≡ client_call_of (view tree.now) }
+{
+    if tree.get("buffer").is_some() {
+        filling_call_of(tree)
+    } else {
+        plain_call_of(tree)
+    }
+}
+
+/// The client's number, and its call.
+#[tactic(auto, unfolding(crate::specs::Script::call_of))]
+fn call_of(tree: &Value) -> Option<Step>
+    ensures { result ≡ call_of (view tree.now) }
+{
     let client = u32_of(tree.get("client")?)?;
-    let call = call_named(tree.get("call")?.as_str()?)?;
+    let call = client_call_of(tree)?;
     Some(Step::Call { client, call })
 }
 

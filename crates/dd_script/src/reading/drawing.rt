@@ -6,11 +6,13 @@ ghost use Rattle.hex.specs.Hex.{decode_of};
 ghost use Rattle.serde_json.specs.View.{view};
 ghost use Rattle.dd_ops.specs.declared.lists.TheConstants.{MAX_OPS};
 ghost use Rattle.dd_script.specs.Reading.{Gives};
-ghost use Rattle.dd_script.specs.Script.{each, point_of, rect_of, colour_of, colours_in, colours_from, colours_of};
-ghost use Rattle.dd_script.specs.Script.{fill_of, blit_of, scroll_of, operation_of, operations_of};
-ghost use Rattle.dd_script.specs.Script.{present_of, change_of, switch_of, has_true, session_of, draw_of};
+ghost use Rattle.dd_script.specs.Script.{each, point_of, rect_of, bytes_of};
+ghost use Rattle.dd_script.specs.Script.{colour_of, colours_in, colours_from, colours_of};
+ghost use Rattle.dd_script.specs.Script.{fill_of, blit_of, cover_of, scroll_of, operation_of, operations_of};
+ghost use Rattle.dd_script.specs.Script.{present_of, change_of, switch_of, has_true, session_of, single_of, draw_of};
 
 use crate::fault::ScriptFault;
+use crate::reading::pointer::{pointer_of, shape_of};
 use crate::reading::tree::{has_items, has_keys, i32_of, list_of, member, u32_of};
 use dd_geom::{Move, Point, Rect};
 use dd_log::Draw;
@@ -41,7 +43,7 @@ fn rect_of(tree: &Value) -> Option<Rect>
 
 /// `[x, y]`.
 #[tactic(auto, unfolding(crate::specs::Script::point_of))]
-fn point_of(tree: &Value) -> Option<Point>
+pub fn point_of(tree: &Value) -> Option<Point>
     ensures { result ≡ point_of (view tree.now) }
 {
     if !has_items(tree, 2) {
@@ -62,7 +64,7 @@ fn colour_of(tree: &Value) -> Option<u32>
 }
 
 /// The bytes of a text of hexadecimal digits.
-fn bytes_of(alloc: Global, text: &str) -> Result<Vec<u8>, ScriptFault>
+fn decoded(alloc: Global, text: &str) -> Result<Vec<u8>, ScriptFault>
     ensures { Gives (λ v. v.items) result (result_ok (decode_of text.now)) }
 {
     match hex::decode(alloc, text) {
@@ -70,6 +72,15 @@ fn bytes_of(alloc: Global, text: &str) -> Result<Vec<u8>, ScriptFault>
         Err(FromHexError::OutOfMemory) => Err(ScriptFault::OutOfMemory),
         Err(_) => Err(ScriptFault::NotScript),
     }
+}
+
+/// Hexadecimal digits, two for each byte.
+#[tactic(auto, unfolding(crate::specs::Script::bytes_of))]
+pub fn bytes_of(alloc: Global, tree: &Value) -> Result<Vec<u8>, ScriptFault>
+    ensures { Gives (λ v. v.items) result (bytes_of (view tree.now)) }
+{
+    let text = tree.as_str().ok_or(ScriptFault::NotScript)?;
+    decoded(alloc, text)
 }
 
 /// The colours of bytes that are red, green and blue in turn. A rest of one or two is left out.
@@ -101,8 +112,7 @@ fn colours_from(alloc: Global, bytes: &[u8]) -> Result<Colours, ScriptFault>
 fn colours_of(alloc: Global, tree: &Value) -> Result<Colours, ScriptFault>
     ensures { Gives (λ colours. colours) result (colours_of (view tree.now)) }
 {
-    let text = tree.as_str().ok_or(ScriptFault::NotScript)?;
-    let bytes = bytes_of(alloc, text)?;
+    let bytes = bytes_of(alloc, tree)?;
     colours_from(alloc, bytes.as_slice())
 }
 
@@ -124,6 +134,16 @@ fn blit_of(alloc: Global, tree: &Value) -> Result<Op, ScriptFault>
     let rect = rect_of(member(tree, "blit")?).ok_or(ScriptFault::NotScript)?;
     let colours = colours_of(alloc, member(tree, "colours")?)?;
     Ok(Op::Blit { rect, colours })
+}
+
+/// `{"cover":R,"colours":colours}`.
+#[tactic(auto, unfolding(crate::specs::Script::cover_of))]
+fn cover_of(alloc: Global, tree: &Value) -> Result<Op, ScriptFault>
+    ensures { Gives (λ op. op) result (cover_of (view tree.now)) }
+{
+    let rect = rect_of(member(tree, "cover")?).ok_or(ScriptFault::NotScript)?;
+    let colours = colours_of(alloc, member(tree, "colours")?)?;
+    Ok(Op::Cover { rect, colours })
 }
 
 /// `{"scroll":R,"from":[x,y]}`: the destination, and the source's point.
@@ -150,6 +170,8 @@ fn operation_of(alloc: Global, tree: &Value) -> Result<Op, ScriptFault>
         fill_of(tree).ok_or(ScriptFault::NotScript)
     } else if tree.get("blit").is_some() {
         blit_of(alloc, tree)
+    } else if tree.get("cover").is_some() {
+        cover_of(alloc, tree)
     } else {
         scroll_of(tree).ok_or(ScriptFault::NotScript)
     }
@@ -233,10 +255,10 @@ fn session_of(tree: &Value) -> Option<Draw>
     }
 }
 
-/// A drawing has one key, which tells its kind.
-#[tactic(auto, unfolding(crate::specs::Script::draw_of))]
-pub fn draw_of(alloc: Global, tree: &Value) -> Result<Draw, ScriptFault>
-    ensures { Gives (λ d. d) result (draw_of (view tree.now)) }
+/// A drawing of one key, which tells its kind.
+#[tactic(auto, unfolding(crate::specs::Script::single_of))]
+fn single_of(alloc: Global, tree: &Value) -> Result<Draw, ScriptFault>
+    ensures { Gives (λ d. d) result (single_of (view tree.now)) }
 {
     if !has_keys(tree, 1) {
         return Err(ScriptFault::NotScript);
@@ -249,5 +271,19 @@ pub fn draw_of(alloc: Global, tree: &Value) -> Result<Draw, ScriptFault>
         switch_of(tree).ok_or(ScriptFault::NotScript)
     } else {
         session_of(tree).ok_or(ScriptFault::NotScript)
+    }
+}
+
+/// A pointer, a shape, or a drawing of one key.
+#[tactic(auto, unfolding(crate::specs::Script::draw_of))]
+pub fn draw_of(alloc: Global, tree: &Value) -> Result<Draw, ScriptFault>
+    ensures { Gives (λ d. d) result (draw_of (view tree.now)) }
+{
+    if tree.get("pointer").is_some() {
+        pointer_of(tree).ok_or(ScriptFault::NotScript)
+    } else if tree.get("shape").is_some() {
+        shape_of(alloc, tree)
+    } else {
+        single_of(alloc, tree)
     }
 }

@@ -6,6 +6,7 @@ ghost use Rattle.dd_script.specs.Answers.{number_of, desc_tree, answer_tree, IsN
 ghost use Rattle.dd_script.specs.Texts.{line};
 
 use crate::text::Text;
+use crate::writing::buffers::{buffer_tree, shape_buffer_tree};
 use crate::writing::frames::frame_tree;
 use crate::writing::refusals::{
     refused_call, refused_client, refused_closing, refused_drawing, refused_opening,
@@ -54,6 +55,10 @@ fn answer_tree(alloc: Global, a: &Answer) -> Result<Value, AllocError>
         Answer::Released => json!(in alloc; {"released": true}),
         Answer::Surface(_) => unreachable!(),
         Answer::Desc(mode) => desc_tree(alloc, *mode),
+        Answer::Buffer { size, bytes } => buffer_tree(alloc, bytes, *size),
+        Answer::ShapeBuffer { size, bytes, shape } => {
+            shape_buffer_tree(alloc, bytes, *shape, *size)
+        }
         Answer::Refused { refusal, buffer } => {
             refused_call(*refusal, buffer.as_ref()).tree(alloc)
         }

@@ -46,7 +46,7 @@ fn info_tree(alloc: Global, info: &FrameInfo) -> Result<Value, AllocError>
 
 /// A point, as its two coordinates.
 #[tactic(auto, unfolding(crate::specs::Answers::point_tree))]
-fn point_tree(alloc: Global, p: Point) -> Result<Value, AllocError>
+pub fn point_tree(alloc: Global, p: Point) -> Result<Value, AllocError>
     ensures { IfOk result (λ v. view v ≡ point_tree p) }
 {
     json!(in alloc; [p.x, p.y])

@@ -3,10 +3,10 @@
 ghost use Rattle.std.specs.Prelude.{◌≡◌, IfOk, OnOk, option_map};
 ghost use Rattle.serde_json.specs.Data.{string, number, unsigned, put as with_member};
 ghost use Rattle.serde_json.specs.View.{view, members_view};
-ghost use Rattle.hex.specs.Hex.{encode_lower};
-ghost use Rattle.dd_script.specs.Answers.{count, named, put_part, refusal_tree};
+ghost use Rattle.dd_script.specs.Answers.{count, bytes_tree, named, put_part, refusal_tree};
 ghost use Rattle.dd_script.specs.Answers.{refused_drawing, refused_opening, refused_closing, refused_call, refused_client};
 
+use crate::writing::buffers::bytes_tree;
 use dd_io::Bytes;
 use dd_log::{CloseRefusal, DupRefusal, LogRefusal, OpenRefusal};
 use serde_json::{Map, Value};
@@ -21,6 +21,9 @@ const INVALID_CALL: &str = "887a0001";
 
 /// DXGI_ERROR_WAIT_TIMEOUT.
 const WAIT_TIMEOUT: &str = "887a0027";
+
+/// DXGI_ERROR_MORE_DATA.
+const MORE_DATA: &str = "887a0003";
 
 /// E_ACCESSDENIED.
 const ACCESS_DENIED: &str = "80070005";
@@ -44,6 +47,8 @@ pub struct Refusal<'r> {
     op: Option<u32>,
     /// The whole buffer that the call was given.
     buffer: Option<&'r Bytes>,
+    /// The number of bytes that the buffer has to have.
+    required: Option<u32>,
 }
 
 impl<'r> Model for Refusal<'r> {
@@ -57,6 +62,7 @@ impl<'r> Model for Refusal<'r> {
       code = option_map (λ c. c.now) r.code;
       op = r.op;
       buffer = option_map (λ b. b.now) r.buffer;
+      required = r.required;
     } };
 }
 
@@ -70,6 +76,7 @@ impl<'r> Refusal<'r> {
             code: None,
             op: None,
             buffer: None,
+            required: None,
         }
     }
 
@@ -97,6 +104,15 @@ impl<'r> Refusal<'r> {
         Refusal { buffer, ..self }
     }
 
+    fn with_required(self, required: u32) -> Refusal<'r>
+        ensures { result ≡ record self.entry { required = Some required } }
+    {
+        Refusal {
+            required: Some(required),
+            ..self
+        }
+    }
+
     /// Its parts as the members of an object.
     pub fn tree(self, alloc: Global) -> Result<Value, AllocError>
         ensures { IfOk result (λ v. view v ≡ refusal_tree self.entry) }
@@ -106,10 +122,12 @@ impl<'r> Refusal<'r> {
             code,
             op,
             buffer,
+            required,
         } = self;
         let mut map = Map::new(alloc);
+        put_if(&mut map, alloc, "required", count_tree(required))?;
         serde_json::put(&mut map, alloc, "refused", text_tree(alloc, name)?)?;
-        put_if(&mut map, alloc, "op", op_tree(op))?;
+        put_if(&mut map, alloc, "op", count_tree(op))?;
         let code = code_tree(alloc, code)?;
         put_if(&mut map, alloc, "code", code)?;
         let buffer = buffer_tree(alloc, buffer)?;
@@ -170,6 +188,11 @@ pub fn refused_call<'r>(refusal: DupRefusal, buffer: Option<&'r Bytes>) -> Refus
         DupRefusal::AccessLost => Refusal::named("AccessLost").with_code(ACCESS_LOST),
         DupRefusal::InvalidCall => Refusal::named("InvalidCall").with_code(INVALID_CALL),
         DupRefusal::WaitTimeout => Refusal::named("WaitTimeout").with_code(WAIT_TIMEOUT),
+        DupRefusal::MoreData { required } => {
+            Refusal::named("MoreData")
+                .with_code(MORE_DATA)
+                .with_required(required)
+        }
         DupRefusal::OutOfMemory => Refusal::named("OutOfMemory"),
     };
     refusal.with_buffer(buffer)
@@ -204,12 +227,12 @@ fn text_tree(alloc: Global, text: &str) -> Result<Value, AllocError>
     Ok(Value::String(String::from_str(alloc, text)?))
 }
 
-fn op_tree(op: Option<u32>) -> Option<Value>
-    ensures { option_map view result ≡ option_map count op }
+fn count_tree(n: Option<u32>) -> Option<Value>
+    ensures { option_map view result ≡ option_map count n }
 {
-    match op {
+    match n {
         None => None,
-        Some(op) => Some(Value::from(op)),
+        Some(n) => Some(Value::from(n)),
     }
 }
 
@@ -226,10 +249,10 @@ fn code_tree(alloc: Global, code: Option<&str>) -> Result<Option<Value>, AllocEr
 fn buffer_tree(alloc: Global, buffer: Option<&Bytes>) -> Result<Option<Value>, AllocError>
     ensures { IfOk result
         (λ o. option_map view o
-        ≡ option_map (λ bytes. string (encode_lower bytes)) (option_map (λ b. b.now) buffer.entry)) }
+        ≡ option_map bytes_tree (option_map (λ b. b.now) buffer.entry)) }
 {
     match buffer {
         None => Ok(None),
-        Some(bytes) => Ok(Some(Value::String(hex::encode(alloc, bytes.as_slice())?))),
+        Some(bytes) => Ok(Some(bytes_tree(alloc, bytes)?)),
     }
 }

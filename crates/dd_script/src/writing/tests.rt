@@ -6,6 +6,7 @@ use dd_io::Bytes;
 use dd_log::{Answer, CloseRefusal, DupRefusal, FrameInfo, LogRefusal, OpenRefusal, Pointer, Rows};
 use dd_modes::{Mode, Rotation};
 use dd_ops::Colours;
+use dd_pointer::ShapeInfo;
 use std::alloc::{AllocError, Global};
 use std::test::Fail;
 
@@ -58,10 +59,26 @@ fn surface(alloc: Global) -> Result<Answer, AllocError> {
     Ok(Answer::Surface(Some(Rows::from_vec(rows))))
 }
 
+/// A shape of one point, in a buffer that is a byte longer.
+fn shape(alloc: Global) -> Result<Answer, AllocError> {
+    let info = ShapeInfo {
+        kind: 2,
+        width: 1,
+        height: 1,
+        pitch: 4,
+        hot: Point { x: -1, y: 3 },
+    };
+    Ok(Answer::ShapeBuffer {
+        size: 4,
+        bytes: Bytes::from_vec([0xc0, 0x00, 0xff, 0x80, 0xee].to_vec(alloc)?),
+        shape: Some(info),
+    })
+}
+
 /// A refused call, whose buffer has two bytes.
 fn refused(alloc: Global) -> Result<Answer, AllocError> {
     Ok(Answer::Refused {
-        refusal: DupRefusal::InvalidCall,
+        refusal: DupRefusal::MoreData { required: 24 },
         buffer: Some(Bytes::from_vec([0xee, 0x01].to_vec(alloc)?)),
     })
 }
@@ -103,8 +120,12 @@ fn lines(rt: HostRuntime) -> Result<(), Fail> {
             r#"{"surface":["000000ff0000","00ff80000001"]}"#,
         ),
         (
+            shape(alloc)?,
+            r#"{"buffer":"c000ff80ee","info":{"height":1,"hot":[-1,3],"kind":2,"pitch":4,"width":1},"size":4}"#,
+        ),
+        (
             refused(alloc)?,
-            r#"{"buffer":"ee01","code":"887a0001","refused":"InvalidCall"}"#,
+            r#"{"buffer":"ee01","code":"887a0003","refused":"MoreData","required":24}"#,
         ),
         (Answer::NoDuplicator, r#"{"refused":"NoDuplicator"}"#),
         (

@@ -46,7 +46,8 @@ returns-clause-held c =
     let none : any_begins (news h c.self.inside.mark) ≡ false =
     subst (λ (e : Duplicator). any_begins (news h e.memory.mark) ≡ false) (sym c.self.view_is) c.requires.begins in
     let memory_is : c.args.self.now.memory ≡ d.memory = ap (λ (e : Duplicator). e.memory) (sym c.self.view_is) in
-    let hidden_is = ap (λ (n : News). n.picture.hidden) c.requires.next ∙ hidden_news h c.args.self.now.memory.mark c.args.self.now.memory.pointer_mark in
+    let hidden_is = ap (λ (n : News). n.picture.hidden) c.requires.next
+    ∙ hidden_news h c.args.self.now.memory.mark c.args.self.now.memory.pointer_mark in
     holds d h c.len-self-inside.result c.frame_of-frame.result.0 c.draw_entries.new.surface c.frame_of-frame.result.1 _
     c.len-self-inside.ensures.len
     (c.frame_of-frame.ensures.frame (picture h) (whole-picture h) hidden_is

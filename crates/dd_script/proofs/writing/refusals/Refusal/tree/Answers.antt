@@ -10,11 +10,14 @@ pub returns : goal.returns
 unfolding refusal_tree
 returns c =
     let empty = ap members_view c.new-map.ensures.empty in
-    let with_name : Data → Members = λ d. put (codes "refused") d (members_view c.new-map.result.entries) in
+    let needs = c.count_tree.ensures in
+    let place = c.count_tree-2.ensures in
+    let required = c.in_ok-put_if.ensures in
+    let with_name : Data → Members = λ d. put (codes "refused") d (members_view c.put_if.new.map.entries) in
     let named = c.in_ok-put.ensures.ok ∙ ap with_name c.in_ok-text_tree.ensures in
-    let op = c.in_ok-put_if.ensures in
-    let code = c.in_ok-put_if-2.ensures in
-    let buffer = c.in_ok-put_if-3.ensures in
-    let whole = view-Object c.put_if-3.new.map in
-    rw (← c.self.view_is, whole, ← c.in_ok-buffer.ensures, ← c.in_ok-code.ensures, ← c.op_tree.ensures)
-    (ap object (put_in_turn _ _ _ _ _ _ _ _ _ empty named op code buffer))
+    let op = c.in_ok-put_if-2.ensures in
+    let code = c.in_ok-put_if-3.ensures in
+    let buffer = c.in_ok-put_if-4.ensures in
+    let whole = view-Object c.put_if-4.new.map in
+    rw (← c.self.view_is, whole, ← c.in_ok-buffer.ensures, ← c.in_ok-code.ensures, ← needs, ← place)
+    (ap object (put_in_turn _ _ _ _ _ _ _ _ _ _ _ empty required named op code buffer))
