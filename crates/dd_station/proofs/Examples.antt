@@ -1,18 +1,21 @@
 -- Small runs, and the limit of clients.
-use Rattle.std.proofs.Common.{◌≡◌, ℕ, pos, true, false, List, [], ◌∷◌, Some, None, refl}
+use Rattle.std.proofs.Common.{◌≡◌, ℕ, pos, Bool, true, false, List, [], ◌∷◌, Some, None, refl}
+use Rattle.dd_geom.specs.declared.rect.Point.{Point}
 use Rattle.dd_geom.specs.declared.rect.Rect.{Rect}
 use Rattle.dd_modes.specs.declared.modes.Mode.{Mode}
 use Rattle.dd_modes.specs.declared.modes.Rotation.TheVariants.{Identity}
+use Rattle.dd_pointer.specs.declared.kind.Kind.TheVariants.{Monochrome}
+use Rattle.dd_pointer.specs.Shape.{PointerShape}
 use Rattle.dd_ops.specs.declared.operations.Op.TheVariants.{Fill}
 use Rattle.dd_bits.specs.CanonicalList.{run_end, same_rows, canonical_list}
 use Rattle.dd_bits.specs.Tiles.{tiles}
 use Rattle.dd_coal.specs.Power.{least_power_from, power}
 use Rattle.dd_acc.specs.Effects.{dirtied, dirt, is_coalesced, moves}
 use Rattle.dd_log.specs.declared.answers.Answer.{Answer}
-use Rattle.dd_log.specs.declared.answers.Answer.TheVariants.{Entered, NotDrawn, Opened, NotOpened, Closed, NotClosed, Frame, Surface, Desc, Refused, NoDuplicator}
+use Rattle.dd_log.specs.declared.answers.Answer.TheVariants.{Entered, NotDrawn, Opened, NotOpened, Closed, NotClosed, Frame, Released, Buffer, ShapeBuffer, Surface, Desc, Refused, NoDuplicator}
 use Rattle.dd_log.specs.declared.answers.OpenRefusal.TheVariants.{AccessDenied, AlreadyDuplicating, SessionDisconnected}
 use Rattle.dd_log.specs.declared.answers.CloseRefusal.TheVariants as closings
-use Rattle.dd_log.specs.declared.answers.DupRefusal.TheVariants.{AccessLost, WaitTimeout}
+use Rattle.dd_log.specs.declared.answers.DupRefusal.TheVariants.{AccessLost, InvalidCall, WaitTimeout, MoreData}
 use Rattle.dd_log.specs.declared.answers.LogRefusal.TheVariants.{BadMode}
 use Rattle.dd_log.specs.declared.events.Draw.TheVariants.{Present, Switch, Disconnect}
 use Rattle.dd_log.specs.declared.events.Draw.TheVariants as drawings
@@ -100,7 +103,8 @@ opened_again : Gives (1 ∷ [])
 unfolding next run picture presents state_of first_desk desk_after desk_of run_end same_rows canonical_list tiles least_power_from power dirtied dirt is_coalesced moves dirt_of picture_news
 opened_again = refl
 
--- two clients of one application: the second has no duplicator to close, and opens one when the first has closed its own
+-- two clients of one application: the second has no duplicator to close, and opens one when the first has closed its
+-- own
 one_application : Gives (1 ∷ 1 ∷ [])
     (Call 2 Close ∷ Call 1 Duplicate ∷ Call 2 Duplicate ∷ Call 2 Close ∷ Call 1 calls.Desc ∷ Call 1 Close ∷ Call 2 Duplicate ∷ Call 1 calls.Desc
     ∷ Draw (drawings.Mode 1) ∷ [])
@@ -109,7 +113,43 @@ one_application : Gives (1 ∷ 1 ∷ [])
 unfolding next run picture presents state_of first_desk desk_after desk_of run_end same_rows canonical_list tiles least_power_from power dirtied dirt is_coalesced moves dirt_of picture_news
 one_application = refl
 
--- what another client does that enters nothing is left out: a refused opening, an acquire and a call without a duplicator
+-- a shape of one column is told once, also in a buffer that is longer; a pointer alone is a frame then
+abbrev column : PointerShape
+column =
+    record { kind = Monochrome; width = 1; height = 2; hot = record { x = pos 0; y = pos 0 }; bytes = 128 ∷ 0 ∷ [] }
+
+-- the frame of news of the pointer alone, of which the last is the entry of this number
+abbrev pointed_at : ℕ → Point → Bool → ℕ → Answer
+pointed_at number position visible shape_size =
+    Frame
+    (record {
+      last_present = 0;
+      last_mouse = number;
+      accumulated = 0;
+      coalesced = false;
+      protected = false;
+      pointer = record { position = position; visible = visible };
+      meta_size = 0;
+      shape_size = shape_size;
+    }) [] []
+
+abbrev point : ℕ → ℕ → Point
+point x y = record { x = pos x; y = pos y }
+
+shape_once : Gives (1 ∷ [])
+    (Call 1 Duplicate ∷ Draw (drawings.Shape column) ∷ acquire 1 ∷ Call 1 (calls.Shape 1) ∷ Call 1 (calls.Shape 3)
+    ∷ Call 1 (calls.Moves 1) ∷ Call 1 Release ∷ Draw (drawings.Pointer (point 3 2) true) ∷ acquire 1
+    ∷ Call 1 (calls.Shape 1) ∷ Call 1 Release ∷ Call 1 (calls.Dirty 1) ∷ [])
+    (Opened 1 0 ∷ Entered 2 ∷ pointed_at 2 (point 0 0) false 2 ∷ Refused (MoreData 2) (Some (238 ∷ []))
+    ∷ ShapeBuffer 2 (128 ∷ 0 ∷ 238 ∷ [])
+    (Some (record { kind = 1; width = 1; height = 2; pitch = 1; hot = point 0 0 }))
+    ∷ Buffer 0 (238 ∷ []) ∷ Released ∷ Entered 3 ∷ pointed_at 3 (point 3 2) true 0
+    ∷ ShapeBuffer 0 (238 ∷ []) None ∷ Released ∷ Refused InvalidCall (Some (238 ∷ [])) ∷ [])
+unfolding next run picture presents state_of first_desk desk_after desk_of run_end same_rows canonical_list tiles least_power_from power dirtied dirt is_coalesced moves dirt_of picture_news
+shape_once = refl
+
+-- what another client does that enters nothing is left out: a refused opening, an acquire and a call without a
+-- duplicator
 left_out : left_steps 1 (λ n. true) (start (record { modes = small ∷ []; capacity = 100; privileged = [] }) (1 ∷ 1 ∷ []))
     (Call 2 calls.Desc ∷ Call 1 Duplicate ∷ Call 2 Duplicate ∷ Call 1 Close ∷ Call 2 Duplicate ∷ acquire 2 ∷ acquire 1 ∷ [])
     ≡ Call 1 Duplicate ∷ Call 1 Close ∷ Call 2 Duplicate ∷ acquire 1 ∷ []

@@ -10,6 +10,7 @@ use Rattle.dd_grid.specs.Cell.{Cell}
 use Rattle.dd_grid.specs.Drawing.{seen, any_hidden, hidden_points}
 use Rattle.dd_modes.specs.declared.modes.Mode.{Mode}
 use Rattle.dd_bits.specs.CanonicalList.{canonical_list}
+use Rattle.dd_pointer.specs.Shape.{PointerShape}
 use Rattle.dd_ops.specs.declared.operations.Op.{Op}
 use Rattle.dd_acc.specs.Effects.{dirt, is_coalesced, moves}
 use Rattle.dd_log.specs.declared.answers.DupRefusal.{DupRefusal}
@@ -26,8 +27,8 @@ use Rattle.dd_log.specs.declared.events.Entry.{Entry}
 use Rattle.dd_log.specs.declared.events.Event.{Event}
 use Rattle.dd_log.specs.declared.events.Draw.{Draw}
 use Rattle.dd_log.specs.Desk.{desk_after, desk_of, first_desk, is_app}
-use Rattle.dd_log.specs.History.{History, desk, desk_mode, first_entries, any_points, any_presents, cuts_off, is_pointing, is_present, last_pointed, last_present, last_shape, present_of, shape_in, is_full, bad_draw, allowed}
 use Rattle.dd_log.specs.Events.{number_from}
+use Rattle.dd_log.specs.History.{History, desk, desk_mode, first_entries, any_points, any_presents, cuts_off, is_pointing, is_present, last_pointed, last_present, last_shape, present_of, shape_in, is_full, bad_draw, allowed}
 use Rattle.dd_log.specs.Picture.{State, state_after, state_of, first_state, picture, presents, view}
 use Rattle.dd_log.specs.Slots.{entry_slot, slot_at}
 use Rattle.dd_table.specs.Opening.{opening, closing, least_free}
@@ -36,7 +37,6 @@ use Rattle.dd_dup.specs.declared.calls.DupCall.TheVariants as asked
 use Rattle.dd_dup.specs.declared.frame.Frame.{Frame}
 use Rattle.dd_dup.specs.declared.frame.PictureNews.{PictureNews}
 use Rattle.dd_dup.specs.declared.frame.PointerNews.{PointerNews}
-use Rattle.dd_pointer.specs.Shape.{PointerShape}
 use Rattle.dd_dup.specs.News.{news, dirt_of, picture_news, picture_since, pointer_since, news_since, frame, frame_from, held_shape, shape_bytes}
 use Rattle.dd_dup.specs.Reply.{Memory, fresh_memory, is_lost, is_new, lost_memory, memory_after, with_frame, without_frame, buffer_answer, shape_answer, in_buffer, unless_refused, held_shape_info, filled_buffer, acquire_reply, acquire_memory, acquire_answer, release_answer, desc_reply, reply}
 use Rattle.dd_station.specs.Independence.{unnumbered, without_numbers}
@@ -141,15 +141,14 @@ last_from is h mark =
 picture_since_same : (h : History) (mark : ℕ) → picture_since h mark ≡ picture_since (without_numbers h) mark
 picture_since_same h mark =
     let bare = without_numbers h in
-    let shown = λ (p : Grid Cell). hidden_points p in
-    ap (λ last. picture_with (desk_mode h) (shown (picture h)) (news h mark) last) (last_from is_present h mark)
+    ap (λ last. picture_with (desk_mode h) (hidden_points (picture h)) (news h mark) last) (last_from is_present h mark)
     ∙ picture_news_same (desk_mode h).width (desk_mode h).height (last_present mark (news bare mark))
-    (shown (picture h)) (news h mark)
-    ∙ ap (λ es. picture_with (desk_mode h) (shown (picture h)) es (last_present mark (news bare mark)))
+    (hidden_points (picture h)) (news h mark)
+    ∙ ap (λ es. picture_with (desk_mode h) (hidden_points (picture h)) es (last_present mark (news bare mark)))
     (news_same h mark)
-    ∙ ap (λ mode. picture_with mode (shown (picture h)) (news bare mark) (last_present mark (news bare mark)))
+    ∙ ap (λ mode. picture_with mode (hidden_points (picture h)) (news bare mark) (last_present mark (news bare mark)))
     (mode_same h)
-    ∙ ap (λ p. picture_with (desk_mode bare) (shown p) (news bare mark) (last_present mark (news bare mark)))
+    ∙ ap (λ p. picture_with (desk_mode bare) (hidden_points p) (news bare mark) (last_present mark (news bare mark)))
     (picture_same h)
 
 abbrev pointer_from : ℕ → Pointer → Option PointerShape → PointerNews

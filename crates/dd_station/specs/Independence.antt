@@ -27,8 +27,8 @@ is_of_other k (steps.Call j call) = nat_le 1 j && not (j == k)
 abbrev pub enters_nothing : State → Step → Bool
 enters_nothing s t = length (next s t).1.history.entries == length s.history.entries
 
--- Steps of others that enter nothing may be left out: acquires, releases, surfaces, refused openings and closings.
--- Which of them are is chosen by their numbers.
+-- Steps of others that enter nothing may be left out: acquires, releases, buffers, surfaces, refused openings and
+-- closings. Which of them are is chosen by their numbers.
 abbrev pub is_left_out : ℕ → (ℕ → Bool) → State → Step → Bool
 is_left_out k chosen s t = chosen s.steps && is_of_other k t && enters_nothing s t
 

@@ -6,11 +6,14 @@ ghost use Rattle.dd_station.specs.Run.{IsOfClient};
 mod cases;
 
 use crate::{Answer, ClientCall, Station, Step};
-use cases::{Act, Case, Dirt, Drawing, FRAMES, LISTS, Told, ToldFrame, Want, tooth};
-use dd_geom::Rect;
+use cases::{
+    Act, BUFFERS, Case, Dirt, Drawing, FRAMES, LISTS, SCROLLS, Told, ToldFrame, Want, tooth,
+};
+use dd_geom::{Point, Rect};
 use dd_log::{Apps, Draw, Rows, Spec};
 use dd_modes::Modes;
 use dd_ops::{Colours, Op, Ops};
+use dd_pointer::Shape;
 use std::alloc::{AllocError, Global};
 use std::process::Abort;
 use std::test::Fail;
@@ -34,7 +37,16 @@ fn in_short(answer: &Answer) -> Told {
         Answer::Surface(Some(_)) => Told::Surface,
         Answer::Surface(None) => Told::NoSurface,
         Answer::Desc(mode) => Told::Desc(*mode),
-        Answer::Refused { refusal, .. } => Told::Refused(*refusal),
+        Answer::Buffer { size, .. } => Told::Buffer(*size),
+        Answer::ShapeBuffer { size, shape, .. } => Told::ShapeBuffer(*size, *shape),
+        Answer::Refused {
+            refusal,
+            buffer: None,
+        } => Told::Refused(*refusal),
+        Answer::Refused {
+            refusal,
+            buffer: Some(_),
+        } => Told::Kept(*refusal),
         Answer::NoDuplicator => Told::NoDuplicator,
     }
 }
@@ -74,6 +86,11 @@ fn step_of(alloc: Global, act: Act) -> Result<Step, Fail>
     match act {
         Act::Present(list) => Ok(Step::Draw(Draw::Present(drawings(alloc, list)?))),
         Act::Teeth(from, to) => Ok(Step::Draw(Draw::Present(teeth(alloc, from, to)?))),
+        Act::Pointer(position, visible) => Ok(Step::Draw(Draw::Pointer { position, visible })),
+        Act::Shape(and, xor) => {
+            let shape = Shape::read(alloc, 1, 1, 2, Point { x: 0, y: 0 }, &[and, xor])?;
+            Ok(Step::Draw(Draw::Shape(shape)))
+        }
         Act::Mode(index) => Ok(Step::Draw(Draw::Mode { index })),
         Act::Switch(secure) => Ok(Step::Draw(Draw::Switch { secure })),
         Act::Disconnect => Ok(Step::Draw(Draw::Disconnect)),
@@ -105,17 +122,22 @@ fn has_dirt(rt: &impl Abort, listed: &[Rect], want: Dirt, name: &str) {
 
 fn has_frame(rt: &impl Abort, answer: &Answer, want: ToldFrame, name: &str) {
     if let Answer::Frame { info, moves, dirt } = answer {
-        assert_eq!(rt; info.accumulated, want.accumulated, "{name}: presents");
-        assert_eq!(rt;
-            info.last_present,
-            want.last_present,
-            "{name}: the last present"
-        );
-        assert_eq!(rt; info.coalesced, want.coalesced, "{name}: rounded");
-        assert_eq!(rt; info.protected, want.protected, "{name}: protected");
-        assert_eq!(rt; info.meta_size, want.meta_size, "{name}: metadata");
+        assert_eq!(rt; *info, want.info, "{name}");
         assert_eq!(rt; moves.as_slice(), want.moves, "{name}: moves");
         has_dirt(rt, dirt.as_slice(), want.dirt, name);
+    }
+}
+
+/// The buffer of an answer; of one that has none, no bytes.
+fn bytes_of(answer: &Answer) -> &[u8] {
+    match answer {
+        Answer::Buffer { bytes, .. } => bytes.as_slice(),
+        Answer::ShapeBuffer { bytes, .. } => bytes.as_slice(),
+        Answer::Refused {
+            buffer: Some(bytes),
+            ..
+        } => bytes.as_slice(),
+        _ => &[],
     }
 }
 
@@ -125,6 +147,10 @@ fn is_wanted(rt: &impl Abort, answer: &Answer, want: Want, name: &str) {
         Want::Frame(frame) => {
             assert_eq!(rt; in_short(answer), Told::Frame, "{name}");
             has_frame(rt, answer, frame, name);
+        }
+        Want::Bytes(told, want) => {
+            assert_eq!(rt; in_short(answer), told, "{name}");
+            assert_eq!(rt; bytes_of(answer), want, "{name}: the buffer");
         }
         Want::Rows(want) => {
             assert_eq!(rt; in_short(answer), Told::Surface, "{name}");
@@ -181,19 +207,12 @@ fn holds(rt: &impl Abort, alloc: Global, case: &Case) -> Result<(), Fail> {
     Ok(())
 }
 
-fn all_hold(rt: &impl Abort, alloc: Global, cases: &[Case]) -> Result<(), Fail> {
-    for case in cases {
-        holds(rt, alloc, case)?;
+#[test]
+fn the_cases_hold(rt: HostRuntime) -> Result<(), Fail> {
+    for table in [LISTS, FRAMES, SCROLLS, BUFFERS] {
+        for case in table {
+            holds(&rt, rt.alloc(), case)?;
+        }
     }
     Ok(())
-}
-
-#[test]
-fn lists_hold(rt: HostRuntime) -> Result<(), Fail> {
-    all_hold(&rt, rt.alloc(), LISTS)
-}
-
-#[test]
-fn frames_hold(rt: HostRuntime) -> Result<(), Fail> {
-    all_hold(&rt, rt.alloc(), FRAMES)
 }

@@ -1,16 +1,21 @@
-//! The cases: the steps on an output, and their answers. They stand in two tables.
+//! The cases: the steps on an output, and their answers. They stand in four tables.
 
+mod buffers;
 mod frames;
 mod lists;
 mod parts;
+mod scrolls;
 
 use crate::ClientCall;
-use dd_geom::{Move, Rect};
-use dd_log::{CloseRefusal, DupRefusal, LogRefusal, OpenRefusal};
+pub use buffers::BUFFERS;
+use dd_geom::{Move, Point, Rect};
+use dd_log::{CloseRefusal, DupRefusal, FrameInfo, LogRefusal, OpenRefusal};
 use dd_modes::Mode;
+use dd_pointer::ShapeInfo;
 pub use frames::FRAMES;
 pub use lists::LISTS;
 pub use parts::tooth;
+pub use scrolls::SCROLLS;
 
 /// An operation: a red fill, a cover of one red point, or a scroll.
 #[derive(Clone, Copy)]
@@ -27,6 +32,10 @@ pub enum Act {
     Present(&'static [Drawing]),
     /// A present of fills of the teeth from the first number up to, not including, the second.
     Teeth(u8, u8),
+    /// The pointer is here, and shown or not.
+    Pointer(Point, bool),
+    /// The pointer gets the monochrome shape of one column whose masks have these two bytes.
+    Shape(u8, u8),
     /// A change to the mode of this number.
     Mode(u32),
     Switch(bool),
@@ -52,7 +61,12 @@ pub enum Told {
     Surface,
     NoSurface,
     Desc(Mode),
+    /// A refusal of a call without a buffer, and of one with a buffer.
     Refused(DupRefusal),
+    Kept(DupRefusal),
+    /// A buffer with so many bytes of moves or rectangles, or of a shape.
+    Buffer(u32),
+    ShapeBuffer(u32, Option<ShapeInfo>),
     NoDuplicator,
 }
 
@@ -66,11 +80,7 @@ pub enum Dirt {
 /// What a frame tells.
 #[derive(Clone, Copy)]
 pub struct ToldFrame {
-    pub accumulated: u32,
-    pub last_present: u64,
-    pub coalesced: bool,
-    pub protected: bool,
-    pub meta_size: u32,
+    pub info: FrameInfo,
     pub moves: &'static [Move],
     pub dirt: Dirt,
 }
@@ -81,6 +91,8 @@ pub enum Want {
     Told(Told),
     Frame(ToldFrame),
     Rows(&'static [&'static [u32]]),
+    /// An answer with a buffer, and all of its bytes.
+    Bytes(Told, &'static [u8]),
 }
 
 /// One case. It ends with so many entries.

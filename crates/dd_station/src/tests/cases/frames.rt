@@ -1,12 +1,12 @@
-//! What a frame tells of the presents since the one before, and what the surface is then.
+//! What a frame tells of fills, covers and several presents, and what the surface is then.
 
 use super::parts::{
-    ACQUIRE, BLACK, INNER, LEFT_COLUMN, LEFT_PAIR, LET_GO, LOWER_CORNER, OPEN, POINT, POINT_BELOW,
-    POINT_BESIDE, RED, RELEASE, RIGHT_HALF, ROW, SCROLL, SECOND_ROW, SECOND_TOOTH, SMALL, SURFACE,
-    THIRD_ROW, THREE, TO_BESIDE, TO_MIDDLE, TO_PAST, TO_RIGHT, UPPER_SQUARE, WHOLE_ROW,
+    ACQUIRE, BLACK, FIRST, INNER, LEFT_COLUMN, LEFT_PAIR, LET_GO, LOWER_CORNER, NOTHING, OPEN,
+    POINT, POINT_BELOW, RED, RELEASE, RIGHT_HALF, ROW, SECOND_ROW, SECOND_TOOTH, SMALL, SURFACE,
+    THIRD_ROW, UPPER_SQUARE, WHOLE_ROW,
 };
 use super::{Act, Case, Dirt, Drawing, Told, ToldFrame, Want};
-use dd_log::{DupRefusal, LogRefusal};
+use dd_log::{DupRefusal, FrameInfo};
 
 pub const FRAMES: &[Case] = &[
     Case {
@@ -28,11 +28,7 @@ pub const FRAMES: &[Case] = &[
             (
                 Act::First(ACQUIRE),
                 Want::Frame(ToldFrame {
-                    accumulated: 1,
-                    last_present: 2,
-                    coalesced: false,
-                    protected: false,
-                    meta_size: 16,
+                    info: FIRST,
                     moves: &[],
                     dirt: Dirt::Rects(&[INNER]),
                 }),
@@ -73,121 +69,14 @@ pub const FRAMES: &[Case] = &[
             (
                 Act::First(ACQUIRE),
                 Want::Frame(ToldFrame {
-                    accumulated: 1,
-                    last_present: 2,
-                    coalesced: false,
-                    protected: false,
-                    meta_size: 0,
+                    info: FrameInfo {
+                        last_present: 2,
+                        accumulated: 1,
+                        ..NOTHING
+                    },
                     moves: &[],
                     dirt: Dirt::Rects(&[]),
                 }),
-            ),
-        ],
-        entries: 2,
-    },
-    Case {
-        name: "a scroll of what was told is a move",
-        mode: SMALL,
-        capacity: 5,
-        apps: [1, 2],
-        steps: &[
-            OPEN,
-            (
-                Act::Present(&[Drawing::Fill(INNER)]),
-                Want::Told(Told::Entered(2)),
-            ),
-            (
-                Act::First(ACQUIRE),
-                Want::Frame(ToldFrame {
-                    accumulated: 1,
-                    last_present: 2,
-                    coalesced: false,
-                    protected: false,
-                    meta_size: 16,
-                    moves: &[],
-                    dirt: Dirt::Rects(&[INNER]),
-                }),
-            ),
-            LET_GO,
-            (
-                Act::Present(&[Drawing::Scroll(TO_RIGHT)]),
-                Want::Told(Told::Entered(3)),
-            ),
-            (
-                Act::First(ACQUIRE),
-                Want::Frame(ToldFrame {
-                    accumulated: 1,
-                    last_present: 3,
-                    coalesced: false,
-                    protected: false,
-                    meta_size: 24,
-                    moves: &[TO_RIGHT],
-                    dirt: Dirt::Rects(&[]),
-                }),
-            ),
-        ],
-        entries: 3,
-    },
-    Case {
-        name: "a scroll of what was not told takes its dirt along",
-        mode: SMALL,
-        capacity: 5,
-        apps: [1, 2],
-        steps: &[
-            OPEN,
-            (
-                Act::Present(&[Drawing::Fill(LEFT_PAIR)]),
-                Want::Told(Told::Entered(2)),
-            ),
-            (
-                Act::Present(&[Drawing::Scroll(TO_MIDDLE)]),
-                Want::Told(Told::Entered(3)),
-            ),
-            (
-                Act::First(ACQUIRE),
-                Want::Frame(ToldFrame {
-                    accumulated: 2,
-                    last_present: 3,
-                    coalesced: false,
-                    protected: false,
-                    meta_size: 40,
-                    moves: &[TO_MIDDLE],
-                    dirt: Dirt::Rects(&[THREE]),
-                }),
-            ),
-        ],
-        entries: 3,
-    },
-    Case {
-        name: "a scroll past the side is not drawn",
-        mode: SMALL,
-        capacity: 5,
-        apps: [1, 2],
-        steps: &[
-            OPEN,
-            (
-                Act::Present(&[Drawing::Fill(LEFT_PAIR)]),
-                Want::Told(Told::Entered(2)),
-            ),
-            (
-                Act::Present(&[Drawing::Scroll(TO_MIDDLE), Drawing::Scroll(TO_PAST)]),
-                Want::Told(Told::NotDrawn(LogRefusal::BadRect { op: 1 })),
-            ),
-            (
-                Act::First(ACQUIRE),
-                Want::Frame(ToldFrame {
-                    accumulated: 1,
-                    last_present: 2,
-                    coalesced: false,
-                    protected: false,
-                    meta_size: 16,
-                    moves: &[],
-                    dirt: Dirt::Rects(&[LEFT_PAIR]),
-                }),
-            ),
-            (
-                Act::First(SURFACE),
-                Want::Rows(&[&[RED, RED, 0, 0], BLACK, BLACK]),
             ),
         ],
         entries: 2,
@@ -210,11 +99,10 @@ pub const FRAMES: &[Case] = &[
             (
                 Act::First(ACQUIRE),
                 Want::Frame(ToldFrame {
-                    accumulated: 1,
-                    last_present: 2,
-                    coalesced: false,
-                    protected: false,
-                    meta_size: 32,
+                    info: FrameInfo {
+                        meta_size: 32,
+                        ..FIRST
+                    },
                     moves: &[],
                     dirt: Dirt::Rects(&[LEFT_COLUMN, RIGHT_HALF]),
                 }),
@@ -240,11 +128,10 @@ pub const FRAMES: &[Case] = &[
             (
                 Act::First(ACQUIRE),
                 Want::Frame(ToldFrame {
-                    accumulated: 1,
-                    last_present: 2,
-                    coalesced: false,
-                    protected: false,
-                    meta_size: 48,
+                    info: FrameInfo {
+                        meta_size: 48,
+                        ..FIRST
+                    },
                     moves: &[],
                     dirt: Dirt::Rects(&[LEFT_PAIR, SECOND_ROW, THIRD_ROW]),
                 }),
@@ -257,63 +144,6 @@ pub const FRAMES: &[Case] = &[
                     &[0, RED, RED, RED],
                 ]),
             ),
-        ],
-        entries: 2,
-    },
-    Case {
-        name: "a scroll over a part of its source",
-        mode: SMALL,
-        capacity: 5,
-        apps: [1, 2],
-        steps: &[
-            OPEN,
-            (
-                Act::Present(&[Drawing::Fill(LEFT_PAIR), Drawing::Scroll(TO_MIDDLE)]),
-                Want::Told(Told::Entered(2)),
-            ),
-            (
-                Act::First(ACQUIRE),
-                Want::Frame(ToldFrame {
-                    accumulated: 1,
-                    last_present: 2,
-                    coalesced: false,
-                    protected: false,
-                    meta_size: 40,
-                    moves: &[TO_MIDDLE],
-                    dirt: Dirt::Rects(&[THREE]),
-                }),
-            ),
-            (
-                Act::First(SURFACE),
-                Want::Rows(&[&[RED, RED, RED, 0], BLACK, BLACK]),
-            ),
-        ],
-        entries: 2,
-    },
-    Case {
-        name: "a scroll of a hidden point",
-        mode: SMALL,
-        capacity: 5,
-        apps: [1, 2],
-        steps: &[
-            OPEN,
-            (
-                Act::Present(&[Drawing::Cover(POINT), Drawing::Scroll(TO_BESIDE)]),
-                Want::Told(Told::Entered(2)),
-            ),
-            (
-                Act::First(ACQUIRE),
-                Want::Frame(ToldFrame {
-                    accumulated: 1,
-                    last_present: 2,
-                    coalesced: false,
-                    protected: true,
-                    meta_size: 40,
-                    moves: &[TO_BESIDE],
-                    dirt: Dirt::Rects(&[LEFT_PAIR]),
-                }),
-            ),
-            (Act::First(SURFACE), Want::Rows(&[BLACK, BLACK, BLACK])),
         ],
         entries: 2,
     },
@@ -331,11 +161,7 @@ pub const FRAMES: &[Case] = &[
             (
                 Act::First(ACQUIRE),
                 Want::Frame(ToldFrame {
-                    accumulated: 1,
-                    last_present: 2,
-                    coalesced: false,
-                    protected: false,
-                    meta_size: 16,
+                    info: FIRST,
                     moves: &[],
                     dirt: Dirt::Rects(&[POINT]),
                 }),
@@ -348,76 +174,6 @@ pub const FRAMES: &[Case] = &[
         entries: 2,
     },
     Case {
-        name: "sixteen scrolls are moves",
-        mode: SMALL,
-        capacity: 5,
-        apps: [1, 2],
-        steps: &[
-            OPEN,
-            (Act::Present(&[SCROLL; 16]), Want::Told(Told::Entered(2))),
-            (
-                Act::First(ACQUIRE),
-                Want::Frame(ToldFrame {
-                    accumulated: 1,
-                    last_present: 2,
-                    coalesced: false,
-                    protected: false,
-                    meta_size: 384,
-                    moves: &[TO_BESIDE; 16],
-                    dirt: Dirt::Rects(&[]),
-                }),
-            ),
-        ],
-        entries: 2,
-    },
-    Case {
-        name: "the seventeenth scroll is a draw",
-        mode: SMALL,
-        capacity: 5,
-        apps: [1, 2],
-        steps: &[
-            OPEN,
-            (Act::Present(&[SCROLL; 17]), Want::Told(Told::Entered(2))),
-            (
-                Act::First(ACQUIRE),
-                Want::Frame(ToldFrame {
-                    accumulated: 1,
-                    last_present: 2,
-                    coalesced: false,
-                    protected: false,
-                    meta_size: 400,
-                    moves: &[TO_BESIDE; 16],
-                    dirt: Dirt::Rects(&[POINT_BESIDE]),
-                }),
-            ),
-        ],
-        entries: 2,
-    },
-    Case {
-        name: "scrolls are counted over the presents of a frame",
-        mode: SMALL,
-        capacity: 5,
-        apps: [1, 2],
-        steps: &[
-            OPEN,
-            (Act::Present(&[SCROLL; 16]), Want::Told(Told::Entered(2))),
-            (Act::Present(&[SCROLL]), Want::Told(Told::Entered(3))),
-            (
-                Act::First(ACQUIRE),
-                Want::Frame(ToldFrame {
-                    accumulated: 2,
-                    last_present: 3,
-                    coalesced: false,
-                    protected: false,
-                    meta_size: 400,
-                    moves: &[TO_BESIDE; 16],
-                    dirt: Dirt::Rects(&[POINT_BESIDE]),
-                }),
-            ),
-        ],
-        entries: 3,
-    },
-    Case {
         name: "sixty-four rectangles are told as they are",
         mode: ROW,
         capacity: 9,
@@ -428,11 +184,10 @@ pub const FRAMES: &[Case] = &[
             (
                 Act::First(ACQUIRE),
                 Want::Frame(ToldFrame {
-                    accumulated: 1,
-                    last_present: 2,
-                    coalesced: false,
-                    protected: false,
-                    meta_size: 1024,
+                    info: FrameInfo {
+                        meta_size: 1024,
+                        ..FIRST
+                    },
                     moves: &[],
                     dirt: Dirt::Teeth(64),
                 }),
@@ -452,11 +207,13 @@ pub const FRAMES: &[Case] = &[
             (
                 Act::First(ACQUIRE),
                 Want::Frame(ToldFrame {
-                    accumulated: 2,
-                    last_present: 3,
-                    coalesced: true,
-                    protected: false,
-                    meta_size: 16,
+                    info: FrameInfo {
+                        last_present: 3,
+                        accumulated: 2,
+                        coalesced: true,
+                        meta_size: 16,
+                        ..NOTHING
+                    },
                     moves: &[],
                     dirt: Dirt::Rects(&[WHOLE_ROW]),
                 }),
@@ -466,11 +223,12 @@ pub const FRAMES: &[Case] = &[
             (
                 Act::First(ACQUIRE),
                 Want::Frame(ToldFrame {
-                    accumulated: 1,
-                    last_present: 4,
-                    coalesced: false,
-                    protected: false,
-                    meta_size: 16,
+                    info: FrameInfo {
+                        last_present: 4,
+                        accumulated: 1,
+                        meta_size: 16,
+                        ..NOTHING
+                    },
                     moves: &[],
                     dirt: Dirt::Rects(&[SECOND_TOOTH]),
                 }),

@@ -1,11 +1,12 @@
 //! Which entries the list gets: openings, closings and the loss of duplicators.
 
 use super::parts::{
-    ACQUIRE, BLACK, CLOSE, DESC, DUPLICATE, FOUR, INNER, LEFT_PAIR, LOST, OPEN, PAST_THE_SIDE,
-    POINT, RED, RELEASE, SMALL, SURFACE, THREE,
+    ACQUIRE, BLACK, CLOSE, DESC, DUPLICATE, FOUR, INNER, LEFT_PAIR, LOST, LOST_KEPT, NOTHING, OPEN,
+    PAST_THE_SIDE, POINT, RED, RELEASE, SMALL, SURFACE, THREE,
 };
 use super::{Act, Case, Dirt, Drawing, Told, ToldFrame, Want};
-use dd_log::{CloseRefusal, DupRefusal, LogRefusal, OpenRefusal};
+use crate::ClientCall;
+use dd_log::{CloseRefusal, DupRefusal, FrameInfo, LogRefusal, OpenRefusal};
 
 pub const LISTS: &[Case] = &[
     Case {
@@ -41,11 +42,12 @@ pub const LISTS: &[Case] = &[
             (
                 Act::Second(ACQUIRE),
                 Want::Frame(ToldFrame {
-                    accumulated: 1,
-                    last_present: 3,
-                    coalesced: false,
-                    protected: false,
-                    meta_size: 16,
+                    info: FrameInfo {
+                        last_present: 3,
+                        accumulated: 1,
+                        meta_size: 16,
+                        ..NOTHING
+                    },
                     moves: &[],
                     dirt: Dirt::Rects(&[POINT]),
                 }),
@@ -54,11 +56,12 @@ pub const LISTS: &[Case] = &[
             (
                 Act::First(ACQUIRE),
                 Want::Frame(ToldFrame {
-                    accumulated: 1,
-                    last_present: 3,
-                    coalesced: false,
-                    protected: false,
-                    meta_size: 16,
+                    info: FrameInfo {
+                        last_present: 3,
+                        accumulated: 1,
+                        meta_size: 16,
+                        ..NOTHING
+                    },
                     moves: &[],
                     dirt: Dirt::Rects(&[POINT]),
                 }),
@@ -144,6 +147,47 @@ pub const LISTS: &[Case] = &[
             ),
         ],
         entries: 6,
+    },
+    Case {
+        name: "a lost duplicator leaves buffers as they are, and so does none",
+        mode: SMALL,
+        capacity: 9,
+        apps: [1, 2],
+        steps: &[
+            OPEN,
+            (
+                Act::Present(&[Drawing::Fill(INNER)]),
+                Want::Told(Told::Entered(2)),
+            ),
+            (Act::First(ACQUIRE), Want::Told(Told::Frame)),
+            (Act::Mode(0), Want::Told(Told::Entered(3))),
+            (
+                Act::First(ClientCall::Dirty { buffer: 1 }),
+                Want::Bytes(LOST_KEPT, &[238]),
+            ),
+            (Act::First(SURFACE), Want::Told(Told::NoSurface)),
+            (
+                Act::First(ClientCall::Moves { buffer: 2 }),
+                Want::Bytes(LOST_KEPT, &[238, 238]),
+            ),
+            (
+                Act::First(ClientCall::Shape { buffer: 0 }),
+                Want::Bytes(LOST_KEPT, &[]),
+            ),
+            (
+                Act::Second(ClientCall::Moves { buffer: 1 }),
+                Want::Told(Told::NoDuplicator),
+            ),
+            (
+                Act::Second(ClientCall::Dirty { buffer: 1 }),
+                Want::Told(Told::NoDuplicator),
+            ),
+            (
+                Act::Second(ClientCall::Shape { buffer: 1 }),
+                Want::Told(Told::NoDuplicator),
+            ),
+        ],
+        entries: 3,
     },
     Case {
         name: "a secure desktop is for the privileged, and a disconnected session for nobody",

@@ -3,8 +3,9 @@
 use super::{Act, Drawing, Told, Want};
 use crate::ClientCall;
 use dd_geom::{Move, Point, Rect};
-use dd_log::DupRefusal;
+use dd_log::{DupRefusal, FrameInfo, Pointer};
 use dd_modes::{Mode, Rotation};
+use dd_pointer::ShapeInfo;
 
 pub const SMALL: Mode = Mode {
     width: 4,
@@ -183,6 +184,50 @@ pub const CLOSE: ClientCall = ClientCall::Close;
 
 pub const DESC: ClientCall = ClientCall::Desc;
 
+/// The pointer that no entry set.
+const HIDDEN: Pointer = Pointer {
+    position: Point { x: 0, y: 0 },
+    visible: false,
+};
+
+/// A frame of no news.
+pub const NOTHING: FrameInfo = FrameInfo {
+    last_present: 0,
+    last_mouse: 0,
+    accumulated: 0,
+    coalesced: false,
+    protected: false,
+    pointer: HIDDEN,
+    meta_size: 0,
+    shape_size: 0,
+};
+
+/// The first frame after an opening, of one present with one rectangle.
+pub const FIRST: FrameInfo = FrameInfo {
+    last_present: 2,
+    accumulated: 1,
+    meta_size: 16,
+    ..NOTHING
+};
+
+/// Left of the output.
+pub const LEFT: Point = Point { x: -1, y: 2 };
+
+/// The pointer shown there.
+pub const SHOWN: Pointer = Pointer {
+    position: LEFT,
+    visible: true,
+};
+
+/// The monochrome shape of one column.
+pub const COLUMN: ShapeInfo = ShapeInfo {
+    kind: 1,
+    width: 1,
+    height: 2,
+    pitch: 1,
+    hot: Point { x: 0, y: 0 },
+};
+
 /// The duplicator is lost.
 pub const LOST: Want = Want::Told(Told::Refused(DupRefusal::AccessLost));
 
@@ -191,6 +236,11 @@ pub const OPEN: (Act, Want) = (
     Act::First(DUPLICATE),
     Want::Told(Told::Opened { entry: 1, slot: 0 }),
 );
+
+/// A buffer is left as it is, since no frame is held, or since the duplicator is lost.
+pub const NONE_HELD: Told = Told::Kept(DupRefusal::InvalidCall);
+
+pub const LOST_KEPT: Told = Told::Kept(DupRefusal::AccessLost);
 
 /// It lets its frame go.
 pub const LET_GO: (Act, Want) = (Act::First(RELEASE), Want::Told(Told::Released));

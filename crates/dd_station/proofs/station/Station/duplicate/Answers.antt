@@ -56,7 +56,8 @@ made h new clients dups n k entry slot app dup s attempt is from to there tried 
           (subst (λ (g : History). Stands dup g) new_is a.4)),
       ap (λ m. Opened m slot) a.2 ∙ ap (λ r. (for_result r).0) (sym granted) ∙ ap (λ t. (outcome t k).0) is,
       ap (λ (g : History). state g clients (slice_set dups (k - 1) (Some dup)) (n + 1)) new_is
-          ∙ ap (λ (ms : List (Option Memory)). with_memories (with_entry h (entry_for (app_of old k))) clients ms (n + 1))
+          ∙ ap (λ (ms : List (Option Memory)).
+          with_memories (with_entry h (entry_for (app_of old k))) clients ms (n + 1))
           (memories-set dups (k - 1) (Some dup) ∙ ap (λ (m : Memory). slice_set (memories dups) (k - 1) (Some m)) a.3)
           ∙ ap (λ r. (for_result r).1) (sym granted)
           ∙ ap (λ t. (outcome t k).1) is,
