@@ -213,8 +213,8 @@ pub refusal-veiled : VeilRefuses
 refusal-veiled h e t =
     let ms : List Mode = h.spec.modes in
     let desks = desk-veiled ms h.entries in
-    ap (λ (d : Desk). refusal_by d.ended (is_full (veil h)) (is_end (veiled_event e)) (bad_event ms d.mode (veiled_event e)))
-    desks
+    ap (λ (d : Desk). refusal_by d.ended (is_full (veil h)) (is_end (veiled_event e))
+    (bad_event ms d.mode (veiled_event e))) desks
     ∙ ap (λ n. refusal_by (desk h).ended (nat_le h.spec.capacity (n + 1)) (is_end (veiled_event e))
     (bad_event ms (desk_mode h) (veiled_event e)))
     (length-map h.entries veiled_entry)
@@ -364,10 +364,12 @@ any_presents-veiled es = any_same is_present present_same es
 pub any_points-veiled : (es : List Entry) → any_points (map veiled_entry es) ≡ any_points es
 any_points-veiled es = any_same is_pointing pointing_same es
 
-pub last_present-veiled : (place : ℕ) (es : List Entry) → last_present place (map veiled_entry es) ≡ last_present place es
+pub last_present-veiled : (place : ℕ) (es : List Entry)
+    → last_present place (map veiled_entry es) ≡ last_present place es
 last_present-veiled place es = number_same is_present present_same es 0 place
 
-pub last_pointed-veiled : (place : ℕ) (es : List Entry) → last_pointed place (map veiled_entry es) ≡ last_pointed place es
+pub last_pointed-veiled : (place : ℕ) (es : List Entry)
+    → last_pointed place (map veiled_entry es) ≡ last_pointed place es
 last_pointed-veiled place es = number_same is_pointing pointing_same es 0 place
 
 shape_from : (es : List Entry) (shape : Option PointerShape)
@@ -375,8 +377,8 @@ shape_from : (es : List Entry) (shape : Option PointerShape)
     ≡ fold (λ s e. option_or (shape_in e.event) s) shape es
 shape_from [] shape = refl
 shape_from (e ∷ es) shape =
-    ap (λ (s : Option PointerShape). fold (λ t x. option_or (shape_in x.event) t) (option_or s shape) (map veiled_entry es))
-    (shape_same e.event)
+    ap (λ (s : Option PointerShape).
+    fold (λ t x. option_or (shape_in x.event) t) (option_or s shape) (map veiled_entry es)) (shape_same e.event)
     ∙ shape_from es (option_or (shape_in e.event) shape)
 
 pub last_shape-veiled : (es : List Entry) → last_shape (map veiled_entry es) ≡ last_shape es

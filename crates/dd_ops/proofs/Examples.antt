@@ -99,7 +99,8 @@ to_outside = refl
 -- the veil of a list: as many black colours in its cover, and the image as it is
 three_veiled :
     veiled three
-    ≡ Fill (rect 0 0 4 1) 16711680 ∷ Blit (rect 0 1 3 2) (1 ∷ 2 ∷ 3 ∷ []) ∷ Cover (rect 2 0 4 2) (0 ∷ 0 ∷ 0 ∷ 0 ∷ []) ∷ []
+    ≡ Fill (rect 0 0 4 1) 16711680 ∷ Blit (rect 0 1 3 2) (1 ∷ 2 ∷ 3 ∷ [])
+    ∷ Cover (rect 2 0 4 2) (0 ∷ 0 ∷ 0 ∷ 0 ∷ []) ∷ []
 three_veiled = refl
 
 -- after a scroll too, the same points are hidden: a cover of black is a cover

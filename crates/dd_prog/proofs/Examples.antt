@@ -9,7 +9,7 @@ use Rattle.dd_coal.specs.Power.{least_power_from, power}
 use Rattle.dd_acc.specs.Effects.{dirtied, dirt, is_coalesced, moves}
 use Rattle.dd_log.specs.Desk.{desk_of, desk_after, first_desk}
 use Rattle.dd_log.specs.Picture.{state_of, picture, presents}
-use Rattle.dd_dup.specs.News.{dirt_of, news_of}
+use Rattle.dd_dup.specs.News.{dirt_of, picture_news}
 use Rattle.dd_station.specs.Run.{next, run}
 use Rattle.dd_script.specs.Script.{script_of}
 use Rattle.dd_script.specs.Texts.{text}
@@ -143,7 +143,7 @@ MovesInOrder = Gives
 
 runs : OneFill × InBands × DirtIsCarried × SeventeenScrolls × AnImage × MovesInOrder
 unfolding script_on_literals next run picture state_of desk_of desk_after first_desk presents dirtied dirt is_coalesced moves
-    canonical_list same_rows run_end tiles power least_power_from dirt_of news_of answers_on_literals
+    canonical_list same_rows run_end tiles power least_power_from dirt_of picture_news answers_on_literals
 runs = (refl, refl, refl, refl, refl, refl)
 
 -- the longest script, in bytes

@@ -4,3 +4,4 @@ pub mod Stepped
 pub mod Unnumbered
 pub mod Independence
 pub mod Veiling
+mod VeilExamples

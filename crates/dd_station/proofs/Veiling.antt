@@ -78,7 +78,8 @@ opening_by spec app d least =
 
 opening_same : (h : History) (app : ℕ) → opening (veil h) app ≡ opening h app
 opening_same h app =
-    ap (λ (d : Desk). opening_by h.spec app d (least_free (position is_none d.slots) (veil h))) (shows-veiled h).same_desk
+    ap (λ (d : Desk). opening_by h.spec app d (least_free (position is_none d.slots) (veil h)))
+    (shows-veiled h).same_desk
     ∙ ap (opening_by h.spec app (desk h)) (free_same h (position is_none (desk h).slots))
 
 abbrev fresh_by : Desk → ℕ → Memory
@@ -98,7 +99,8 @@ opening_alike : (o : Result ℕ OpenRefusal) (s : State) (k : ℕ)
 opening_alike (Ok slot) s k =
     let h : History = s.history in
     let e : Entry = entry_of s k (events.Opened slot (app_of s k)) in
-    ap (λ n. opened_by s k slot n (with_entry (veil h) e) (fresh_memory (veil h) (length (veil h).entries))) (number_same s)
+    ap (λ n. opened_by s k slot n (with_entry (veil h) e) (fresh_memory (veil h) (length (veil h).entries)))
+    (number_same s)
     ∙ ap (λ (l : History). opened_by s k slot (next_number s) l (fresh_memory (veil h) (length (veil h).entries)))
     (push-veiled h e)
     ∙ ap (opened_by s k slot (next_number s) (veil (with_entry h e))) (fresh_same h)
@@ -156,7 +158,8 @@ call_same s k (calls.Shape buffer) = asking_same s k (asked.Shape buffer)
 call_same s k calls.Surface = asking_same s k asked.Surface
 call_same s k calls.Desc = asking_same s k asked.Desc
 
-next_same : (s : State) (t : Step) → step_coloured t ≡ true → next (veiled_state s) (veiled_step t) ≡ veiled_outcome (next s t)
+next_same : (s : State) (t : Step) → step_coloured t ≡ true
+    → next (veiled_state s) (veiled_step t) ≡ veiled_outcome (next s t)
 unfolding next
 next_same s (steps.Draw d) t = draw_same s d t
 next_same s (steps.Call k call) t = call_same s k call

@@ -114,10 +114,16 @@ fn lines(rt: HostRuntime) -> Result<(), Fail> {
             r#"{"height":3,"rotation":2,"width":4}"#,
         ),
         (Answer::Released, r#"{"released":true}"#),
-        (Answer::Surface(None), r#"{"surface":null}"#),
         (
             surface(alloc)?,
             r#"{"surface":["000000ff0000","00ff80000001"]}"#,
+        ),
+        (
+            Answer::Buffer {
+                size: 0,
+                bytes: Bytes::from_vec(Vec::new(alloc)),
+            },
+            r#"{"buffer":"","size":0}"#,
         ),
         (
             shape(alloc)?,
