@@ -144,7 +144,7 @@ client_takes_memory s k (calls.Shape buffer) = asks_memory s k (asked.Shape buff
 client_takes_memory s k calls.Surface = asks_memory s k asked.Surface
 client_takes_memory s k calls.Desc = asks_memory s k asked.Desc
 
--- whether memory is taken for a step: for each drawing, for an opening and for a frame that is granted, for rows and for
+-- whether memory is taken for a step: for each drawing, for an opening and a frame that are granted, for rows and for
 -- each buffer; never for a closing or a release
 unfoldable pub step_takes_memory : State → Step → Bool
 step_takes_memory s (steps.Draw d) = true

@@ -14,6 +14,6 @@ returns-clause-drawn c =
     let at : List Cell → Grid Cell = λ cs. record { width = p.width; height = p.height; cells = cs } in
     ap at (with_items_is p.cells c.write_image.new.cells (omega arith))
     ∙ (image_from_drawn (plain 0) (cell_of false) view c.args.r c.args.colours.now c.sides_of.result
-    c.deref_mut.result.now c.write_image.new.cells c.sides_of.ensures c.deref_mut.ensures.value (omega arith) (omega arith)
-    c.write_image.ensures
+    c.deref_mut.result.now c.write_image.new.cells c.sides_of.ensures c.deref_mut.ensures.value (omega arith)
+    (omega arith) c.write_image.ensures
     ∙ ap (λ n. blitted n c.args.r c.args.colours.now) c.self.view_is)
