@@ -1,0 +1,13 @@
+//! The bytes of a record: its chunks, and the rule of each field.
+#![tactic(auto)]
+
+mod chunk;
+mod fault;
+mod fields;
+mod head;
+mod layout;
+mod rectangles;
+mod shapes;
+
+pub use chunk::{Chunk, FrameChunk, Parsed};
+pub use fault::RecordFault;

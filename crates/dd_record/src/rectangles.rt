@@ -1,0 +1,85 @@
+//! The moves and the dirty rectangles of a frame.
+
+ghost use Rattle.std.specs.Prelude.{◌≡◌, ◌≤◌, ◌+◌, ◌*◌, ◌^◌, length, IfOk, IsTrue};
+ghost use Rattle.std.specs.List.{list_all};
+ghost use Rattle.dd_geom.specs.Rect.{IsSize, is_inside};
+ghost use Rattle.dd_acc.specs.declared.interval.TheConstants.{MAX_MOVES};
+ghost use Rattle.dd_coal.specs.declared.coalescing.TheConstants.{MAX_RECTS};
+ghost use Rattle.dd_record.specs.Reading.{Gives};
+ghost use Rattle.dd_record.specs.Dirt.{covered_by, is_canonical, pixel_count};
+ghost use Rattle.dd_record.specs.Grammar.{move_at, moves_of, rect_at, rects_of, dirt_of};
+
+use crate::fault::Stop;
+use crate::fields::{come, kept};
+use crate::layout::FRAME_HEAD_BYTES;
+use dd_bits::Area;
+use dd_geom::{
+    MOVE_BYTES, Move, Moves, RECT_BYTES, Rect, Rects, move_inside, move_of, point_count,
+    rect_inside, rect_of,
+};
+use dd_modes::Mode;
+use dd_region::Bands;
+use std::alloc::{AllocError, Global};
+
+/// The move at a place.
+#[tactic(auto, unfolding(crate::specs::Grammar::move_at))]
+fn move_at(mode: Mode, bytes: &[u8], at: usize) -> Result<Move, Stop>
+    ensures { Gives result (move_at mode bytes.now at) }
+{
+    let field: [u8; 24] = come(bytes, at)?;
+    let mv = move_of(&field);
+    kept(at, move_inside(mv, mode.width, mode.height), mv)
+}
+
+/// The rectangle at a place.
+#[tactic(auto, unfolding(crate::specs::Grammar::rect_at))]
+fn rect_at(mode: Mode, bytes: &[u8], at: usize) -> Result<Rect, Stop>
+    ensures { Gives result (rect_at mode bytes.now at) }
+{
+    let field: [u8; 16] = come(bytes, at)?;
+    let rect = rect_of(&field);
+    kept(at, rect_inside(rect, mode.width, mode.height), rect)
+}
+
+/// So many moves from a place on.
+#[tactic(auto, using(crate::proofs::OneByOne::one_by_one))]
+pub(crate) fn moves_of(
+    alloc: Global,
+    mode: Mode,
+    count: u8,
+    bytes: &[u8],
+    at: usize,
+) -> Result<Moves, Stop>
+    requires { at ≤ 2 ^ 32 }
+    ensures { Gives result (moves_of mode count bytes.now at) }
+{
+    let count = usize::from(count);
+    let mut moves = Vec::with_capacity(alloc, count)?;
+    for i in 0..count {
+        let mv = move_at(mode, bytes, at + MOVE_BYTES as usize * i)?;
+        moves.push(mv)?;
+    }
+    Ok(Moves::from_vec(moves))
+}
+
+/// So many rectangles from a place on.
+#[tactic(auto, using(crate::proofs::OneByOne::one_by_one))]
+fn rects_of(
+    alloc: Global,
+    mode: Mode,
+    count: u8,
+    bytes: &[u8],
+    at: usize,
+) -> Result<Rects, Stop>
+    requires { at ≤ 2 ^ 32 }
+    ensures value { Gives result (rects_of mode count bytes.now at) }
+    ensures inside { IfOk result (λ rects. IsTrue (list_all (λ r. is_inside r mode.width mode.height) rects)) }
+{
+    let count = usize::from(count);
+    let mut rects = Vec::with_capacity(alloc, count)?;
+    for i in 0..count {
+        let rect = rect_at(mode, bytes, at + RECT_BYTES as usize * i)?;
+        rects.push(rect)?;
+    }
+    Ok(Rects::from_vec(rects))
+}
