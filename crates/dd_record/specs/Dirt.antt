@@ -1,12 +1,17 @@
 -- Dirty rectangles as the one list that tells their points, and the number of their points.
 use Rattle.std.specs.Prelude.{◌≡◌, ℕ, Bool, ◌&&◌, List, map, sum, IsTrue, ◌↔◌}
-use Rattle.std.specs.List.{list_any}
+use Rattle.std.specs.List.{list_any, list_all}
 use Rattle.std.specs.Ordering.{int_eq}
 use lib.Pointwise.{pointwise}
 use Rattle.dd_geom.specs.declared.rect.Rect.{Rect}
-use Rattle.dd_geom.specs.Rect.{has, points}
+use Rattle.dd_geom.specs.Rect.{has, is_inside, points}
 use Rattle.dd_geom.specs.Grid.{Grid, grid}
+use Rattle.dd_modes.specs.declared.modes.Mode.{Mode}
 use Rattle.dd_bits.specs.CanonicalList.{canonical_list}
+
+-- each of the rectangles lies inside the surface of a mode
+abbrev pub are_inside : Mode → List Rect → Bool
+are_inside mode rects = list_all (λ r. is_inside r mode.width mode.height) rects
 
 -- the points of a surface that lie in one of the rectangles
 abbrev pub covered_by : ℕ → ℕ → List Rect → Grid Bool
@@ -15,7 +20,7 @@ covered_by w h rects = grid w h (λ x y. list_any (λ r. has r x y) rects)
 -- two rectangles are the same, and two lists of them are, in order
 abbrev pub same_rect : Rect → Rect → Bool
 same_rect r s =
-    int_eq r.left s.left && int_eq r.top s.top && int_eq r.right s.right && int_eq r.bottom s.bottom
+    int_eq r.left s.left && (int_eq r.top s.top && (int_eq r.right s.right && int_eq r.bottom s.bottom))
 
 abbrev pub same_rects : List Rect → List Rect → Bool
 same_rects rects others = pointwise same_rect rects others

@@ -6,6 +6,7 @@ mod fault;
 mod fields;
 mod head;
 mod layout;
+mod pixels;
 mod rectangles;
 mod shapes;
 

@@ -1,12 +1,9 @@
 //! The moves and the dirty rectangles of a frame.
 
 ghost use Rattle.std.specs.Prelude.{◌≡◌, ◌≤◌, ◌+◌, ◌*◌, ◌^◌, length, IfOk, IsTrue};
-ghost use Rattle.std.specs.List.{list_all};
-ghost use Rattle.dd_geom.specs.Rect.{IsSize, is_inside};
-ghost use Rattle.dd_acc.specs.declared.interval.TheConstants.{MAX_MOVES};
-ghost use Rattle.dd_coal.specs.declared.coalescing.TheConstants.{MAX_RECTS};
+ghost use Rattle.dd_geom.specs.Rect.{IsSize};
 ghost use Rattle.dd_record.specs.Reading.{Gives};
-ghost use Rattle.dd_record.specs.Dirt.{covered_by, is_canonical, pixel_count};
+ghost use Rattle.dd_record.specs.Dirt.{are_inside, covered_by, is_canonical, pixel_count};
 ghost use Rattle.dd_record.specs.Grammar.{move_at, moves_of, rect_at, rects_of, dirt_of};
 
 use crate::fault::Stop;
@@ -72,8 +69,7 @@ fn rects_of(
     at: usize,
 ) -> Result<Rects, Stop>
     requires { at ≤ 2 ^ 32 }
-    ensures value { Gives result (rects_of mode count bytes.now at) }
-    ensures inside { IfOk result (λ rects. IsTrue (list_all (λ r. is_inside r mode.width mode.height) rects)) }
+    ensures { Gives result (rects_of mode count bytes.now at) }
 {
     let count = usize::from(count);
     let mut rects = Vec::with_capacity(alloc, count)?;
@@ -82,4 +78,55 @@ fn rects_of(
         rects.push(rect)?;
     }
     Ok(Rects::from_vec(rects))
+}
+
+/// The points that lie in one of the rectangles.
+fn area_of(alloc: Global, mode: Mode, rects: &[Rect]) -> Result<Bands, AllocError>
+    requires size { IsSize mode.width mode.height }
+    requires inside { IsTrue (are_inside mode rects.now) }
+    ensures { IfOk result (λ area. area ≡ covered_by mode.width mode.height rects.now) }
+{
+    let mut area = Bands::empty(alloc, mode.width, mode.height)?;
+    for rect in rects {
+        area.add(*rect)?;
+    }
+    Ok(area)
+}
+
+/// Whether the rectangles are the canonical list of their points.
+#[tactic(auto, unfolding(crate::specs::Dirt::is_canonical))]
+fn is_canonical(alloc: Global, mode: Mode, rects: &[Rect]) -> Result<bool, AllocError>
+    requires size { IsSize mode.width mode.height }
+    requires inside { IsTrue (are_inside mode rects.now) }
+    ensures { IfOk result (λ canonical. canonical ≡ is_canonical mode.width mode.height rects.now) }
+{
+    let area = area_of(alloc, mode, rects)?;
+    let list = area.list()?;
+    Ok(rects == list.as_slice())
+}
+
+/// So many rectangles from a place on, which are the canonical list of their points.
+#[tactic(auto, unfolding(crate::specs::Grammar::dirt_of), using(crate::proofs::Rules::rects_inside))]
+pub(crate) fn dirt_of(
+    alloc: Global,
+    mode: Mode,
+    count: u8,
+    bytes: &[u8],
+    at: usize,
+) -> Result<Rects, Stop>
+    requires size { IsSize mode.width mode.height }
+    requires place { at ≤ 2 ^ 32 }
+    ensures { Gives result (dirt_of mode count bytes.now at) }
+{
+    let rects = rects_of(alloc, mode, count, bytes, at)?;
+    let canonical = is_canonical(alloc, mode, rects.as_slice())?;
+    kept(at, canonical, rects)
+}
+
+/// How many points the rectangles have.
+pub(crate) fn pixel_count(rects: &[Rect]) -> usize
+    requires { pixel_count rects.now ≤ 2 ^ 32 }
+    ensures { result ≡ pixel_count rects.now }
+{
+    rects.iter().map(|rect| point_count(*rect)).sum()
 }
