@@ -1,3 +1,4 @@
 pub mod Covering
 pub mod OneByOne
 pub mod Rules
+pub mod Within

@@ -1,13 +1,17 @@
 -- What was read keeps its rules.
 use Rattle.std.proofs.Common.{◌≡◌, ℕ, zero, suc, ◌+◌, ◌-◌, ◌*◌, ◌<◌, ◌≤◌, ◌^◌, Bool, true, false, List, [], ◌∷◌, length, map, refl, sym, ap, ◌∙◌, IsTrue, arith}
-use Rattle.std.specs.List.{list_all}
-use Rattle.std.proofs.lemmas.Bool.{and_from}
+use Rattle.std.specs.List.{list_all, sum_by}
+use Rattle.std.proofs.lemmas.List.Sums.{sum-map, sum_by-cons}
+use Rattle.std.proofs.lemmas.Bool.{and_from, and_parts}
+use Rattle.std.proofs.lemmas.Nat.{mul-le}
+use Rattle.std.proofs.Math.Nat.{mul-suc}
 use Rattle.dd_geom.specs.declared.rect.Rect.{Rect}
 use Rattle.dd_geom.specs.declared.rect.TheConstants.{MAX_PIXELS}
-use Rattle.dd_geom.specs.Rect.{IsSize, is_inside, points}
+use Rattle.dd_geom.specs.Rect.{IsSize, is_inside, place, points}
+use Rattle.dd_geom.proofs.RectLemmas.{AreInside-sides}
 use Rattle.dd_modes.specs.declared.modes.Mode.{Mode}
 use Rattle.dd_record.specs.Reading.{Reading, Good, Bad, Short, ◌>>=◌, come, kept, fields}
-use Rattle.dd_record.specs.Dirt.{are_inside, pixel_count}
+use Rattle.dd_record.specs.Dirt.{are_inside, is_canonical, pixel_count}
 use Rattle.dd_record.specs.Grammar.{rect_at, rects_of, dirt_of}
 
 module _ {A B : Type 0} where
@@ -49,3 +53,42 @@ pub rects_inside : (mode : Mode) (n : ℕ) (bytes : List ℕ) (at : ℕ) (rects 
     → rects_of mode n bytes at ≡ Good rects → IsTrue (are_inside mode rects)
 rects_inside mode n bytes at rects e =
     all_kept (rect_at mode bytes) (λ r. is_inside r mode.width mode.height) (rect_inside mode bytes) _ at n rects e
+
+-- ---- the dirty rectangles have few points
+
+length-fields : {A : Type 0} (f : ℕ → Reading A) (size at n : ℕ) (xs : List A) → fields f size at n ≡ Good xs
+    → length xs ≡ n
+length-fields f size at zero [] e = refl
+length-fields f size at zero (x ∷ xs) e = cc
+length-fields f size at (suc n) xs e =
+    let a = parts (f at) (λ x. fields f size (at + size) n >>= λ ys. Good (x ∷ ys)) xs e in
+    let b = parts (fields f size (at + size) n) (λ ys. Good (a.0 ∷ ys)) xs a.2 in
+    let is : a.0 ∷ b.0 ≡ xs = cc in
+    ap length (sym is) ∙ ap suc (length-fields f size (at + size) n b.0 b.1)
+
+points_few : (r : Rect) (w h : ℕ) → IsSize w h → is_inside r w h ≡ true → points r ≤ MAX_PIXELS
+points_few r w h size inside =
+    let s = AreInside-sides r w h inside in
+    let across : place r.right - place r.left ≤ w = omega (arith, s.right) in
+    let down : place r.bottom - place r.top ≤ h = omega (arith, s.bottom) in
+    omega (arith, mul-le (place r.right - place r.left) (place r.bottom - place r.top) w h across down, size.pixels)
+
+pixels_few : (mode : Mode) (rects : List Rect) → IsSize mode.width mode.height → are_inside mode rects ≡ true
+    → sum_by points rects ≤ MAX_PIXELS * length rects
+pixels_few mode [] size inside = omega arith
+pixels_few mode (r ∷ rects) size inside =
+    let both = and_parts (is_inside r mode.width mode.height) (are_inside mode rects) inside in
+    let first = points_few r mode.width mode.height size both.0 in
+    let others = pixels_few mode rects size both.1 in
+    omega (arith, mul-suc MAX_PIXELS (length rects), sum_by-cons points r rects, first, others)
+
+pub dirt_few : (mode : Mode) (n : ℕ) (bytes : List ℕ) (at : ℕ) (rects : List Rect) → IsSize mode.width mode.height
+    → n < 256 → dirt_of mode n bytes at ≡ Good rects → pixel_count rects ≤ 2 ^ 32
+unfolding dirt_of
+dirt_few mode n bytes at rects size few e =
+    let a = parts (rects_of mode n bytes at) (λ rects. kept at (is_canonical mode.width mode.height rects) rects) rects e in
+    let k = kept_is at (is_canonical mode.width mode.height a.0) a.0 rects a.2 in
+    let count = length-fields (rect_at mode bytes) _ at n a.0 a.1 in
+    let inside = rects_inside mode n bytes at a.0 a.1 in
+    let sum = pixels_few mode a.0 size inside in
+    rw (← k.1) (omega (arith, sum-map points a.0, sum, count, few))

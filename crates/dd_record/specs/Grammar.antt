@@ -23,6 +23,7 @@ use Rattle.dd_acc.specs.declared.interval.TheConstants.{MAX_MOVES}
 use Rattle.dd_coal.specs.declared.coalescing.TheConstants.{MAX_RECTS}
 use Rattle.dd_record.specs.declared.chunk.Chunk.{Chunk}
 use Rattle.dd_record.specs.declared.chunk.Chunk.TheVariants.{Opening, Frame, End}
+use Rattle.dd_record.specs.declared.chunk.FrameChunk.{FrameChunk}
 use Rattle.dd_record.specs.declared.chunk.Parsed.{Parsed}
 use Rattle.dd_record.specs.declared.fault.RecordFault.{RecordFault}
 use Rattle.dd_record.specs.declared.fault.RecordFault.TheVariants.{BadMagic, BadField, Truncated, OutOfMemory}
@@ -86,12 +87,17 @@ accumulated_of last_present bytes =
 
 -- u8
 unfoldable pub coalesced_of : ℕ → List ℕ → Reading Bool
-coalesced_of accumulated bytes =
-    number 21 1 bytes >>= λ n. kept 21 (is_flag n && zero_where accumulated n) n >>= λ n. Good (n == 1)
+coalesced_of accumulated bytes = do
+  n ← number 21 1 bytes
+  flag ← kept 21 (is_flag n && zero_where accumulated n) n
+  Good (flag == 1)
 
 -- u8
 unfoldable pub protected_of : List ℕ → Reading Bool
-protected_of bytes = number 22 1 bytes >>= λ n. kept 22 (is_flag n) n >>= λ n. Good (n == 1)
+protected_of bytes = do
+  n ← number 22 1 bytes
+  flag ← kept 22 (is_flag n) n
+  Good (flag == 1)
 
 -- x i32, y i32, visible u8
 unfoldable pub pointer_of : List ℕ → Reading Pointer
@@ -234,17 +240,19 @@ abbrev pub behind_shape : FrameInfo → List Rect → ℕ
 behind_shape info dirt =
     behind_pixels info dirt + (if info.shape_size == 0 then 0 else SHAPE_HEAD_BYTES + info.shape_size)
 
-unfoldable pub frame_of : Mode → List ℕ → Reading Parsed
-frame_of mode bytes = do
+unfoldable pub frame_chunk_of : Mode → List ℕ → Reading FrameChunk
+frame_chunk_of mode bytes = do
   head ← head_of bytes
   moves ← moves_of mode head.moves bytes FRAME_HEAD_BYTES
   dirt ← dirt_of mode head.rects bytes (FRAME_HEAD_BYTES + MOVE_BYTES * head.moves)
   pixels ← pixels_of (pixel_count dirt) bytes (behind_rects head.info)
   shape ← new_shape_of head.info.shape_size bytes (behind_pixels head.info dirt)
-  Good (record {
-    chunk = Frame (record { info = head.info; moves = moves; dirt = dirt; pixels = pixels; shape = shape });
-    used = behind_shape head.info dirt;
-  })
+  Good (record { info = head.info; moves = moves; dirt = dirt; pixels = pixels; shape = shape })
+
+unfoldable pub frame_of : Mode → List ℕ → Reading Parsed
+frame_of mode bytes = do
+  frame ← frame_chunk_of mode bytes
+  Good (record { chunk = Frame frame; used = behind_shape frame.info frame.dirt })
 
 -- a frame chunk, only where an opening chunk came before
 abbrev pub frame_after : Option Mode → List ℕ → Reading Parsed

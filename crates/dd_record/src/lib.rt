@@ -10,5 +10,5 @@ mod pixels;
 mod rectangles;
 mod shapes;
 
-pub use chunk::{Chunk, FrameChunk, Parsed};
+pub use chunk::{Chunk, FrameChunk, Parsed, parse_chunk};
 pub use fault::RecordFault;

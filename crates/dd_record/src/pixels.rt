@@ -28,7 +28,7 @@ pub(crate) fn pixels_of(
     bytes: &[u8],
     at: usize,
 ) -> Result<Colours, Stop>
-    requires place { at ≤ 2 ^ 32 }
+    requires place { at ≤ 2 ^ 40 }
     requires few { count ≤ 2 ^ 32 }
     ensures { Gives result (pixels_of count bytes.now at) }
 {

@@ -47,7 +47,7 @@ pub(crate) fn moves_of(
     bytes: &[u8],
     at: usize,
 ) -> Result<Moves, Stop>
-    requires { at ≤ 2 ^ 32 }
+    requires { at ≤ 2 ^ 40 }
     ensures { Gives result (moves_of mode count bytes.now at) }
 {
     let count = usize::from(count);
@@ -68,7 +68,7 @@ fn rects_of(
     bytes: &[u8],
     at: usize,
 ) -> Result<Rects, Stop>
-    requires { at ≤ 2 ^ 32 }
+    requires { at ≤ 2 ^ 40 }
     ensures { Gives result (rects_of mode count bytes.now at) }
 {
     let count = usize::from(count);
@@ -115,7 +115,7 @@ pub(crate) fn dirt_of(
     at: usize,
 ) -> Result<Rects, Stop>
     requires size { IsSize mode.width mode.height }
-    requires place { at ≤ 2 ^ 32 }
+    requires place { at ≤ 2 ^ 40 }
     ensures { Gives result (dirt_of mode count bytes.now at) }
 {
     let rects = rects_of(alloc, mode, count, bytes, at)?;
