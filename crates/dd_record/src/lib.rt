@@ -9,6 +9,8 @@ mod layout;
 mod pixels;
 mod rectangles;
 mod shapes;
+#[cfg(test)]
+mod tests;
 
 pub use chunk::{Chunk, FrameChunk, Parsed, parse_chunk};
 pub use fault::RecordFault;
