@@ -1,3 +1,4 @@
+pub mod Canonical
 pub mod Covering
 pub mod OneByOne
 pub mod Rules

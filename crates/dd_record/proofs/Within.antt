@@ -15,7 +15,7 @@ use Rattle.dd_record.specs.declared.layout.TheConstants.{FRAME_HEAD_BYTES, PIXEL
 use Rattle.dd_record.specs.Reading.{Reading, Good, Bad, Short, ◌>>=◌, come, kept, number, coordinate, fields}
 use Rattle.dd_record.specs.Dirt.{pixel_count}
 use Rattle.dd_record.proofs.Rules.{parts}
-use Rattle.dd_record.specs.Grammar.{width_of, height_of, rotation_of, mode_of, last_present_of, last_mouse_of, accumulated_of, coalesced_of, protected_of, pointer_of, meta_of, shape_size_of, move_count_of, rect_count_of, info_of, head_of, move_at, moves_of, rect_at, dirt_of, pixel_at, pixels_of, behind_rects, behind_pixels, shape_head, shape_head_at, or_bad, shape_at, new_shape_of, frame_chunk_of, frame_of, frame_after, opening_of, tagged, chunk_of}
+use Rattle.dd_record.specs.Grammar.{width_of, height_of, rotation_of, mode_of, last_present_of, last_mouse_of, accumulated_of, coalesced_of, protected_of, pointer_of, meta_of, shape_size_of, move_count_of, rect_count_of, info_of, head_of, move_at, moves_of, rect_at, dirt_of, pixel_at, pixels_of, behind_rects, behind_pixels, shape_head, shape_head_at, or_bad, shape_at, new_shape_of, frame_chunk_of, frame_of, frame_after, opening_of, tagged, chunk_of, BadHasCome}
 
 module _ (n : ℕ) where
   -- the place of a bad field is at most n
@@ -229,6 +229,5 @@ module _ (bytes : List ℕ) where
       if_come _ (tag == 0) _ _ tt (if_come _ (tag == 1) _ _ opening_come
       (if_come _ (tag == 2) _ _ (frame_come mode within) within)))
 
--- the place of a bad field
-pub bad_come : (mode : Option Mode) (bytes : List ℕ) (at : ℕ) → chunk_of mode bytes ≡ Bad at → at ≤ length bytes
-bad_come mode bytes at e = subst (HasCome (length bytes)) e (chunk_come bytes mode)
+pub bad_has_come : BadHasCome
+bad_has_come mode bytes at e = subst (HasCome (length bytes)) e (chunk_come bytes mode)

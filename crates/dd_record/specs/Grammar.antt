@@ -1,6 +1,6 @@
 -- The chunks of a record, field by field: the place of each, counted from the chunk's tag, its size, and its rule, which
 -- speaks of this field and those before it. Numbers stand lowest byte first.
-use Rattle.std.specs.Prelude.{◌≡◌, ℕ, ◌+◌, ◌*◌, nat_le, Bool, false, not, ◌&&◌, ◌||◌, ◌==◌, if◌then◌else◌, List, [], ◌∷◌, length, take, drop, slice_index_or, Option, Some, None, Result, Ok, Err}
+use Rattle.std.specs.Prelude.{◌≡◌, ℕ, ◌+◌, ◌*◌, ◌≤◌, nat_le, Bool, false, not, ◌&&◌, ◌||◌, ◌==◌, if◌then◌else◌, List, [], ◌∷◌, length, take, drop, slice_index_or, Option, Some, None, Result, Ok, Err}
 use Rattle.byteorder.specs.Endian.{little_number}
 use Rattle.dd_geom.specs.declared.rect.TheConstants.{MAX_SIDE, MAX_PIXELS, MOVE_BYTES, RECT_BYTES}
 use Rattle.dd_geom.specs.declared.rect.Point.{Point}
@@ -274,6 +274,11 @@ tagged mode bytes tag =
 -- the chunk that bytes begin with, after one that opened a mode
 unfoldable pub chunk_of : Option Mode → List ℕ → Reading Parsed
 chunk_of mode bytes = number 0 1 bytes >>= tagged mode bytes
+
+-- a bad field is one that has come: its place is none behind the bytes that there are
+abbrev pub BadHasCome : Type 0
+BadHasCome =
+    (mode : Option Mode) (bytes : List ℕ) (at : ℕ) → chunk_of mode bytes ≡ Bad at → at ≤ length bytes
 
 -- ---- what is answered of a chunk whose tag stands at a place of the record
 

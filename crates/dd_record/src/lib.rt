@@ -5,6 +5,7 @@ mod chunk;
 mod fault;
 mod fields;
 mod head;
+mod laws;
 mod layout;
 mod pixels;
 mod rectangles;
@@ -14,3 +15,4 @@ mod tests;
 
 pub use chunk::{Chunk, FrameChunk, Parsed, parse_chunk};
 pub use fault::RecordFault;
+pub use laws::{bad_has_come, tells_canonical};

@@ -1,5 +1,8 @@
 //! Chunks that are read, are not whole, or have one bad field, with bytes and places worked out by hand.
 
+ghost use Rattle.std.specs.Prelude.{IfSome};
+ghost use Rattle.dd_geom.specs.Rect.{IsSize};
+
 use crate::RecordFault::BadField;
 use crate::{Chunk, Parsed, RecordFault, parse_chunk};
 use dd_geom::{Move, Point, Rect};
@@ -170,7 +173,9 @@ fn one_field_is_bad(rt: HostRuntime) {
 }
 
 /// The chunk at a place of the whole record.
-fn chunk_at(alloc: Global, at: usize, mode: Option<Mode>) -> Result<Parsed, Fail> {
+fn chunk_at(alloc: Global, at: usize, mode: Option<Mode>) -> Result<Parsed, Fail>
+    requires { IfSome mode (λ m. IsSize m.width m.height) }
+{
     let bytes = RECORD.get(at..).ok_or("past the record")?;
     let parsed = parse_chunk(alloc, bytes, 0, mode)?;
     Ok(parsed.ok_or("not whole")?)

@@ -1,0 +1,14 @@
+//! Laws of the definitions.
+
+ghost use Rattle.dd_record.specs.Dirt.{TellsCanonical};
+ghost use Rattle.dd_record.specs.Grammar.{BadHasCome};
+
+/// A list of rectangles is let pass exactly where it is the canonical list of its points.
+pub fn tells_canonical()
+    ensures { TellsCanonical }
+{}
+
+/// A field is bad only once it has come.
+pub fn bad_has_come()
+    ensures { BadHasCome }
+{}
