@@ -1,5 +1,6 @@
 pub mod Canonical
 pub mod Covering
 pub mod OneByOne
+pub mod ReadBack
 pub mod Rules
 pub mod Within

@@ -1,3 +1,4 @@
 pub mod Reading
 pub mod Dirt
 pub mod Grammar
+pub mod Writing

@@ -2,6 +2,7 @@
 
 ghost use Rattle.dd_record.specs.Dirt.{TellsCanonical};
 ghost use Rattle.dd_record.specs.Grammar.{BadHasCome};
+ghost use Rattle.dd_record.specs.Writing.{ReadsWhatIsWritten};
 
 /// A list of rectangles is let pass exactly where it is the canonical list of its points.
 pub fn tells_canonical()
