@@ -1,5 +1,6 @@
 pub mod Canonical
 pub mod Covering
+pub mod HeadBack
 pub mod OneByOne
 pub mod ReadBack
 pub mod Rules
