@@ -38,13 +38,17 @@ number_is at size n bytes small within is =
     ap (λ r. r >>= λ field. Good (little_number size field)) (come_is at size bytes (little_bytes size n) within is)
     ∙ ap Good (ap (little_number size) (sym (append-nil (little_bytes size n))) ∙ little_number-reads_back size n [] small)
 
+pub coordinate_is_read : (z : ℤ) (rest : List ℕ) → FitsSigned w32 z
+    → coordinate_at (coordinate_bytes z ++ rest) 0 ≡ z
+coordinate_is_read z rest fits =
+    let bits : cast_unsigned w32 z < 256 ^ 4 = omega (arith, Fits-of_z fits) in
+    ap (cast_signed w32) (little_number-reads_back 4 (cast_unsigned w32 z) rest bits) ∙ to_z-of_z w32 z fits
+
 pub coordinate_is : (at : ℕ) (z : ℤ) (bytes : List ℕ) → FitsSigned w32 z → at + 4 ≤ length bytes
     → take 4 (drop at bytes) ≡ coordinate_bytes z → coordinate at bytes ≡ Good z
 coordinate_is at z bytes fits within is =
-    let bits : cast_unsigned w32 z < 256 ^ 4 = omega (arith, Fits-of_z fits) in
     ap (λ r. r >>= λ field. Good (coordinate_at field 0)) (come_is at 4 bytes (coordinate_bytes z) within is)
-    ∙ ap Good (ap (cast_signed w32) (ap (little_number 4) (sym (append-nil (coordinate_bytes z)))
-    ∙ little_number-reads_back 4 (cast_unsigned w32 z) [] bits) ∙ to_z-of_z w32 z fits)
+    ∙ ap Good (ap (λ field. coordinate_at field 0) (sym (append-nil (coordinate_bytes z))) ∙ coordinate_is_read z [] fits)
 
 -- a field and those behind it
 pub go : {A B : Type 0} (r : Reading A) (f : A → Reading B) (x : A) (y : Reading B) → r ≡ Good x → f x ≡ y

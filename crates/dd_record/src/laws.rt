@@ -13,3 +13,9 @@ pub fn tells_canonical()
 pub fn bad_has_come()
     ensures { BadHasCome }
 {}
+
+/// The bytes of each chunk that keeps the rules, whatever stands behind them, are read as the chunk,
+/// and it has as many bytes.
+pub fn reads_what_is_written()
+    ensures { ReadsWhatIsWritten }
+{}

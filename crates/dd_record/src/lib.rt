@@ -15,4 +15,4 @@ mod tests;
 
 pub use chunk::{Chunk, FrameChunk, Parsed, parse_chunk};
 pub use fault::RecordFault;
-pub use laws::{bad_has_come, tells_canonical};
+pub use laws::{bad_has_come, reads_what_is_written, tells_canonical};
