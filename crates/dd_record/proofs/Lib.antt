@@ -1,5 +1,6 @@
 pub mod Canonical
 pub mod Covering
+pub mod Examples
 pub mod FrameBack
 pub mod HeadBack
 pub mod ListsBack

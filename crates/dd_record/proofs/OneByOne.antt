@@ -4,7 +4,8 @@ use Rattle.std.proofs.lemmas.List.{append-nil}
 use Rattle.std.proofs.Math.Nat.{mul-suc}
 use Rattle.dd_record.specs.declared.fault.Stop.{Stop}
 use Rattle.dd_record.specs.declared.fault.Stop.TheVariants as stops
-use Rattle.dd_record.specs.Reading.{Reading, Good, Bad, Short, ◌>>=◌, fields, Stops}
+use Rattle.dd_record.specs.Reading.{Reading, Good, Bad, Short, ◌>>=◌, fields}
+use Rattle.dd_record.specs.Answers.{Stops}
 
 module _ {A : Type 0} where
   -- what was read before, and what is still read

@@ -1,9 +1,7 @@
 -- What is read of the bytes that have come: of a field, or of several in order.
-use Rattle.std.specs.Prelude.{◌≡◌, ℕ, ℤ, zero, suc, ◌+◌, nat_le, if◌then◌else◌, Bool, List, [], ◌∷◌, length, take, drop, Result, Ok, Err}
+use Rattle.std.specs.Prelude.{◌≡◌, ℕ, ℤ, zero, suc, ◌+◌, nat_le, if◌then◌else◌, Bool, List, [], ◌∷◌, length, take, drop}
 use Rattle.byteorder.specs.Endian.{little_number}
 use Rattle.dd_geom.specs.Bytes.{coordinate_at}
-use Rattle.dd_record.specs.declared.fault.Stop.{Stop}
-use Rattle.dd_record.specs.declared.fault.Stop.TheVariants as stops
 
 -- the value; or the place of the first field that has come whole and breaks its rule; or, where no field is bad, that
 -- bytes are missing
@@ -42,14 +40,3 @@ fields f size at (suc n) = do
   x ← f at
   xs ← fields f size (at + size) n
   Good (x ∷ xs)
-
--- why nothing was read
-abbrev pub Stops : {A : Type 0} → Stop → Reading A → Type 0
-Stops (stops.Bad at) reading = reading ≡ Bad at
-Stops stops.Short reading = reading ≡ Short
-Stops stops.OutOfMemory reading = Unit {0}
-
--- a part of a chunk is read as its definition says; want of memory says nothing
-abbrev pub Gives : {A : Type 0} → Result A Stop → Reading A → Type 0
-Gives (Ok x) reading = reading ≡ Good x
-Gives (Err stop) reading = Stops stop reading

@@ -2,7 +2,7 @@
 
 ghost use Rattle.std.specs.Prelude.{◌≡◌, ◌≤◌, ◌^◌, IfSome, IfOk};
 ghost use Rattle.dd_geom.specs.Rect.{IsSize};
-ghost use Rattle.dd_record.specs.Reading.{Gives};
+ghost use Rattle.dd_record.specs.Answers.{Gives};
 ghost use Rattle.dd_record.specs.Dirt.{pixel_count};
 ghost use Rattle.dd_record.specs.Grammar.{frame_chunk_of, frame_of, frame_after, opening_of, tagged, chunk_of};
 ghost use Rattle.dd_record.specs.Grammar.{behind_rects, behind_pixels, behind_shape, told, Tells};

@@ -2,7 +2,8 @@
 
 ghost use Rattle.std.specs.Prelude.{◌≡◌};
 ghost use Rattle.std.specs.Int.{w32, cast_signed};
-ghost use Rattle.dd_record.specs.Reading.{Gives, come, kept, number, coordinate};
+ghost use Rattle.dd_record.specs.Answers.{Gives};
+ghost use Rattle.dd_record.specs.Reading.{come, kept, number, coordinate};
 
 use crate::fault::Stop;
 use byteorder::{ByteOrder, LittleEndian};

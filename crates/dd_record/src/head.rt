@@ -1,7 +1,7 @@
 //! The opening chunk, and what stands in a frame chunk before its moves.
 
 ghost use Rattle.std.specs.Prelude.{◌≡◌};
-ghost use Rattle.dd_record.specs.Reading.{Gives};
+ghost use Rattle.dd_record.specs.Answers.{Gives};
 ghost use Rattle.dd_record.specs.Grammar.{zero_where, width_of, height_of, rotation_of, mode_of};
 ghost use Rattle.dd_record.specs.Grammar.{last_present_of, last_mouse_of, accumulated_of, coalesced_of, protected_of};
 ghost use Rattle.dd_record.specs.Grammar.{pointer_of, meta_of, shape_size_of, move_count_of, rect_count_of};

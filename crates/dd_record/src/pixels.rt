@@ -1,7 +1,7 @@
 //! The pixels of a frame's dirty rectangles.
 
 ghost use Rattle.std.specs.Prelude.{◌≡◌, ◌≤◌, ◌^◌};
-ghost use Rattle.dd_record.specs.Reading.{Gives};
+ghost use Rattle.dd_record.specs.Answers.{Gives};
 ghost use Rattle.dd_record.specs.Grammar.{pixel_at, pixels_of};
 
 use crate::fault::Stop;

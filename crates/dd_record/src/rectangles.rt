@@ -2,7 +2,7 @@
 
 ghost use Rattle.std.specs.Prelude.{◌≡◌, ◌≤◌, ◌+◌, ◌*◌, ◌^◌, length, IfOk, IsTrue};
 ghost use Rattle.dd_geom.specs.Rect.{IsSize};
-ghost use Rattle.dd_record.specs.Reading.{Gives};
+ghost use Rattle.dd_record.specs.Answers.{Gives};
 ghost use Rattle.dd_record.specs.Dirt.{are_inside, covered_by, is_canonical, pixel_count};
 ghost use Rattle.dd_record.specs.Grammar.{move_at, moves_of, rect_at, rects_of, dirt_of};
 

@@ -1,6 +1,6 @@
 -- A bad field has come, so its place in the record is a number of 64 bits.
 use Rattle.std.proofs.Common.{◌≤◌, length, subst, arith}
-use Rattle.dd_record.specs.Reading.{Stops}
+use Rattle.dd_record.specs.Answers.{Stops}
 use Rattle.dd_record.specs.Grammar.{chunk_of}
 use Rattle.dd_record.proofs.Within.{bad_has_come}
 use Rattle.dd_record.proofs.chunk.parse_chunk.Goals as goal
