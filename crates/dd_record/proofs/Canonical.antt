@@ -18,8 +18,13 @@ equal r s e =
 same_rect_decides : (r s : Rect) → Decides (same_rect r s) (r ≡ s)
 same_rect_decides r s =
     Decides-like (same_rect r s) (equal r s)
-    (λ e. (ap (λ (x : Rect). x.left) e, (ap (λ (x : Rect). x.top) e,
-    (ap (λ (x : Rect). x.right) e, ap (λ (x : Rect). x.bottom) e))))
+    (λ e. (
+      ap (λ (x : Rect). x.left) e,
+      (
+        ap (λ (x : Rect). x.top) e,
+        (ap (λ (x : Rect). x.right) e, ap (λ (x : Rect). x.bottom) e),
+      ),
+    ))
     (Decides-and _ _ (Decides-int_eq r.left s.left)
     (Decides-and _ _ (Decides-int_eq r.top s.top)
     (Decides-and _ _ (Decides-int_eq r.right s.right) (Decides-int_eq r.bottom s.bottom))))

@@ -5,9 +5,8 @@ use Rattle.std.proofs.lemmas.List.{take_more}
 use Rattle.std.proofs.lemmas.List.Folds.{list_any-append}
 use Rattle.dd_geom.specs.declared.rect.Rect.{Rect}
 use Rattle.dd_geom.specs.Rect.{has}
-use Rattle.dd_geom.specs.Grid.{Grid, grid}
 use Rattle.dd_geom.proofs.GridLemmas.{value_at-grid, grid_from_agree}
-use Rattle.dd_bits.specs.Area.{nowhere, with_rect}
+use Rattle.dd_bits.specs.Area.{with_rect}
 use Rattle.dd_record.specs.Dirt.{covered_by}
 
 either : (a b : Bool) → (a || b) ≡ (b || (a || false))

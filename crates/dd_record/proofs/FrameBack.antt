@@ -1,28 +1,24 @@
 -- A frame chunk that was written is read again.
-use Rattle.std.proofs.Common.{◌≡◌, ◌==◌, ◌&&◌, ℕ, zero, suc, ◌+◌, ◌*◌, ◌<◌, ◌≤◌, ◌^◌, Bool, true, false, cond, List, [], ◌∷◌, ◌++◌, length, take, drop, IsTrue, Option, Some, None, Result, Ok, refl, sym, ap, ◌∙◌, append_assoc, length-append, eq-eqb, arith}
+use Rattle.std.proofs.Common.{◌≡◌, ◌==◌, ℕ, ◌+◌, ◌*◌, ◌≤◌, true, false, cond, List, [], ◌++◌, length, Option, Some, None, refl, sym, ap, ◌∙◌, append_assoc, length-append, eq-eqb, arith}
 use Rattle.std.specs.Prelude.{IfSome}
 use Rattle.std.specs.List.{flat_map}
 use Rattle.std.proofs.lemmas.Bool.{and_from}
-use Rattle.byteorder.specs.Endian.{little_number}
 use Rattle.byteorder.specs.Numbers.{little_number-reads_back}
-use Rattle.dd_geom.specs.declared.rect.Point.{Point}
 use Rattle.dd_geom.specs.declared.rect.TheConstants.{MOVE_BYTES, RECT_BYTES}
-use Rattle.dd_geom.specs.Bytes.{rect_bytes, move_bytes, coordinate_bytes, coordinate_at}
+use Rattle.dd_geom.specs.Bytes.{rect_bytes, move_bytes, coordinate_bytes}
 use Rattle.dd_geom.proofs.ByteLemmas.{length-rect_bytes, length-move_bytes}
 use Rattle.dd_modes.specs.declared.modes.Mode.{Mode}
-use Rattle.dd_pointer.specs.declared.kind.Kind.{Kind}
 use Rattle.dd_pointer.specs.declared.kind.TheConstants.{MAX_BYTES}
-use Rattle.dd_pointer.specs.Shape.{PointerShape, number, kind_of, is_size, required, reading}
+use Rattle.dd_pointer.specs.Shape.{PointerShape, number, kind_of}
 use Rattle.dd_pointer.proofs.Sizes.{has_size, required_few, required_some, height_few, number_small, kind_of-number, shape_is_read}
 use Rattle.dd_log.specs.declared.answers.FrameInfo.{FrameInfo}
 use Rattle.dd_meta.proofs.Pieces.{length-pieces}
-use Rattle.dd_record.specs.declared.chunk.Chunk.TheVariants.{Opening, Frame, End}
+use Rattle.dd_record.specs.declared.chunk.Chunk.TheVariants.{Frame}
 use Rattle.dd_record.specs.declared.chunk.FrameChunk.{FrameChunk}
-use Rattle.dd_record.specs.declared.chunk.Parsed.{Parsed}
 use Rattle.dd_record.specs.declared.layout.TheConstants.{FRAME_HEAD_BYTES, PIXEL_BYTES, SHAPE_HEAD_BYTES}
 use Rattle.dd_record.specs.declared.shapes.ShapeHead.{ShapeHead}
-use Rattle.dd_record.specs.Reading.{Reading, Good, ◌>>=◌, come, kept, number as number_at}
-use Rattle.dd_record.specs.Dirt.{is_canonical, pixel_count}
+use Rattle.dd_record.specs.Reading.{Good, ◌>>=◌, come}
+use Rattle.dd_record.specs.Dirt.{pixel_count}
 use Rattle.dd_record.specs.Grammar.{has_bytes, shape_head, shape_head_at, or_bad, shape_at, new_shape_of, head_of, moves_of, rects_of, dirt_of, pixels_of, behind_rects, behind_pixels, behind_shape, frame_chunk_of, frame_of, tagged, chunk_of}
 use Rattle.dd_record.specs.Writing.{u32_bytes, point_bytes, head_bytes, pixel_bytes, shape_head_bytes, shape_bytes, frame_bytes, size_of, KeepsShape, KeepsRules, ReadsWhatIsWritten}
 use Rattle.dd_record.proofs.Canonical.{tells_canonical}
@@ -167,18 +163,32 @@ module _ (mode : Mode) (f : FrameChunk) (rest : List ℕ) (keeps : KeepsRules mo
 
   place_of_rects : length (the_info ++ the_moves) ≡ FRAME_HEAD_BYTES + MOVE_BYTES * length f.moves
   place_of_rects =
-      omega (arith, length-append the_info the_moves, place_of_moves,
-      length-pieces move_bytes MOVE_BYTES length-move_bytes f.moves)
+      omega (
+        arith,
+        length-append the_info the_moves,
+        place_of_moves,
+        length-pieces move_bytes MOVE_BYTES length-move_bytes f.moves,
+      )
 
   place_of_pixels : length ((the_info ++ the_moves) ++ the_rects) ≡ behind_rects f.info
   place_of_pixels =
-      omega (arith, length-append (the_info ++ the_moves) the_rects, place_of_rects,
-      length-pieces rect_bytes RECT_BYTES length-rect_bytes f.dirt, keeps.meta)
+      omega (
+        arith,
+        length-append (the_info ++ the_moves) the_rects,
+        place_of_rects,
+        length-pieces rect_bytes RECT_BYTES length-rect_bytes f.dirt,
+        keeps.meta,
+      )
 
   place_of_shape : length (((the_info ++ the_moves) ++ the_rects) ++ the_pixels) ≡ behind_pixels f.info f.dirt
   place_of_shape =
-      omega (arith, length-append ((the_info ++ the_moves) ++ the_rects) the_pixels, place_of_pixels,
-      length-pieces pixel_bytes PIXEL_BYTES length-pixel_bytes f.pixels, keeps.pixels)
+      omega (
+        arith,
+        length-append ((the_info ++ the_moves) ++ the_rects) the_pixels,
+        place_of_pixels,
+        length-pieces pixel_bytes PIXEL_BYTES length-pixel_bytes f.pixels,
+        keeps.pixels,
+      )
 
   head_read : head_of all ≡ Good (record { info = f.info; moves = length f.moves; rects = length f.dirt })
   head_read =
@@ -240,11 +250,17 @@ module _ (mode : Mode) (f : FrameChunk) (rest : List ℕ) (keeps : KeepsRules mo
   length-frame_bytes =
       let shape : List ℕ = shape_bytes f.shape in
       let sum : length (frame_bytes f) ≡ behind_pixels f.info f.dirt + length shape =
-      omega (arith, length-append the_info (the_moves ++ (the_rects ++ (the_pixels ++ shape))),
-      length-append the_moves (the_rects ++ (the_pixels ++ shape)),
-      length-append the_rects (the_pixels ++ shape), length-append the_pixels shape,
-      length-append ((the_info ++ the_moves) ++ the_rects) the_pixels,
-      length-append (the_info ++ the_moves) the_rects, length-append the_info the_moves, place_of_shape) in
+      omega (
+        arith,
+        length-append the_info (the_moves ++ (the_rects ++ (the_pixels ++ shape))),
+        length-append the_moves (the_rects ++ (the_pixels ++ shape)),
+        length-append the_rects (the_pixels ++ shape),
+        length-append the_pixels shape,
+        length-append ((the_info ++ the_moves) ++ the_rects) the_pixels,
+        length-append (the_info ++ the_moves) the_rects,
+        length-append the_info the_moves,
+        place_of_shape,
+      ) in
       sum ∙ ap (λ (k : ℕ). behind_pixels f.info f.dirt + k)
       (length-shape_bytes f.shape keeps.shape
       ∙ ap (λ (n : ℕ). cond (n == 0) 0 (SHAPE_HEAD_BYTES + n)) (sym keeps.shape_size))

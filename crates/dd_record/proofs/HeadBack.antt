@@ -1,5 +1,5 @@
 -- A frame's head that was written is read again.
-use Rattle.std.proofs.Common.{◌≡◌, ◌==◌, ◌||◌, ◌&&◌, not, ℕ, zero, suc, ◌+◌, ◌*◌, ◌<◌, ◌≤◌, ◌^◌, Bool, true, false, cond, nat_le, List, [], ◌∷◌, ◌++◌, length, take, drop, refl, sym, ap, ◌∙◌, eq-eqb, arith}
+use Rattle.std.proofs.Common.{◌≡◌, ◌==◌, ◌||◌, ◌&&◌, not, ℕ, zero, suc, ◌+◌, ◌*◌, ◌<◌, ◌≤◌, ◌^◌, Bool, true, false, cond, List, [], ◌∷◌, ◌++◌, length, take, drop, refl, sym, ap, ◌∙◌, eq-eqb, arith}
 use Rattle.std.proofs.lemmas.Bool.{le-leb, and_from}
 use Rattle.std.proofs.lemmas.Bool.Decides.{nat_tests}
 use Rattle.byteorder.specs.Endian.{little_number}
@@ -9,11 +9,9 @@ use Rattle.dd_meta.specs.declared.buffer.TheConstants.{MAX_METADATA}
 use Rattle.dd_acc.specs.declared.interval.TheConstants.{MAX_MOVES}
 use Rattle.dd_coal.specs.declared.coalescing.TheConstants.{MAX_RECTS}
 use Rattle.dd_log.specs.declared.answers.FrameInfo.{FrameInfo}
-use Rattle.dd_log.specs.declared.events.TheConstants.{MAX_CAPACITY}
-use Rattle.dd_record.specs.declared.head.Head.{Head}
-use Rattle.dd_record.specs.Reading.{Reading, Good, ◌>>=◌, come, kept, number, coordinate}
+use Rattle.dd_record.specs.Reading.{Good, ◌>>=◌, number}
 use Rattle.dd_record.specs.Grammar.{zero_where, is_flag, last_present_of, last_mouse_of, accumulated_of, coalesced_of, protected_of, pointer_of, meta_of, shape_size_of, move_count_of, rect_count_of, info_of, head_of}
-use Rattle.dd_record.specs.Writing.{flag_bytes, head_bytes, KeepsInfo}
+use Rattle.dd_record.specs.Writing.{head_bytes, KeepsInfo}
 use Rattle.dd_record.proofs.ReadBack.{come_is, kept_good, number_is, coordinate_is, go}
 
 byte_is : (at n : ℕ) (bytes : List ℕ) → at + 1 ≤ length bytes → take 1 (drop at bytes) ≡ n ∷ []

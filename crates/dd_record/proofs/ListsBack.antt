@@ -1,22 +1,20 @@
 -- Moves, rectangles, pixels and a shape that were written are read again.
-use Rattle.std.proofs.Common.{◌≡◌, ◌==◌, ℕ, suc, ◌+◌, ◌*◌, ◌<◌, ◌≤◌, ◌^◌, Bool, true, false, cond, List, [], ◌∷◌, ◌++◌, length, take, drop, IsTrue, Option, Some, None, Result, Ok, refl, sym, ap, ◌∙◌, append_assoc, length-append, eq-eqb, arith}
-use Rattle.std.specs.Prelude.{IfSome}
+use Rattle.std.proofs.Common.{◌≡◌, ℕ, ◌+◌, ◌<◌, ◌≤◌, true, List, [], ◌∷◌, ◌++◌, length, take, drop, IsTrue, refl, sym, ap, ◌∙◌, append_assoc, length-append, arith}
 use Rattle.std.specs.List.{flat_map, AllByRecursion}
 use Rattle.std.proofs.Math.Seq.{drop-append_seam, take-append_seam}
-use Rattle.std.proofs.lemmas.Bool.{and_from}
 use Rattle.std.proofs.lemmas.List.Concat.{flat_map-cons}
-use Rattle.byteorder.specs.Endian.{little_bytes, little_number}
+use Rattle.byteorder.specs.Endian.{little_number}
 use Rattle.byteorder.specs.Numbers.{little_number-reads_back}
 use Rattle.dd_geom.specs.declared.rect.Rect.{Rect}
 use Rattle.dd_geom.specs.declared.rect.Move.{Move}
 use Rattle.dd_geom.specs.declared.rect.TheConstants.{MOVE_BYTES, RECT_BYTES}
-use Rattle.dd_geom.specs.Bytes.{rect_bytes, move_bytes, rect_of, move_of, coordinate_bytes, coordinate_at}
+use Rattle.dd_geom.specs.Bytes.{rect_bytes, move_bytes}
 use Rattle.dd_geom.specs.Rect.{FitsSides, FitsMove, is_inside, is_move_inside}
 use Rattle.dd_geom.proofs.ByteLemmas.{rect_is_read, move_is_read, length-rect_bytes, length-move_bytes}
 use Rattle.dd_grid.specs.declared.cell.TheConstants.{COLOURS}
 use Rattle.dd_modes.specs.declared.modes.Mode.{Mode}
 use Rattle.dd_record.specs.declared.layout.TheConstants.{PIXEL_BYTES}
-use Rattle.dd_record.specs.Reading.{Reading, Good, ◌>>=◌, come, kept, fields}
+use Rattle.dd_record.specs.Reading.{Reading, Good, come, fields}
 use Rattle.dd_record.specs.Grammar.{move_at, moves_of, rect_at, rects_of, pixel_at, pixels_of}
 use Rattle.dd_record.specs.Writing.{pixel_bytes}
 use Rattle.dd_record.proofs.ReadBack.{come_is, kept_good, go}

@@ -1,7 +1,6 @@
 -- Reading fields one after another, as a loop does.
-use Rattle.std.proofs.Common.{◌≡◌, ℕ, zero, suc, ◌+◌, ◌-◌, ◌*◌, ◌<◌, ◌≤◌, List, [], ◌∷◌, ◌++◌, refl, sym, ap, subst, ◌∙◌, append_assoc, arith}
+use Rattle.std.proofs.Common.{◌≡◌, ℕ, suc, ◌+◌, ◌-◌, ◌*◌, ◌<◌, ◌≤◌, List, [], ◌∷◌, ◌++◌, refl, sym, ap, ◌∙◌, append_assoc, arith}
 use Rattle.std.proofs.lemmas.List.{append-nil}
-use Rattle.std.proofs.Math.Nat.{mul-suc}
 use Rattle.dd_record.specs.declared.fault.Stop.{Stop}
 use Rattle.dd_record.specs.declared.fault.Stop.TheVariants as stops
 use Rattle.dd_record.specs.Reading.{Reading, Good, Bad, Short, ◌>>=◌, fields}

@@ -1,22 +1,19 @@
 -- What was written is read again: single fields, an opening chunk and a frame's head.
-use Rattle.std.proofs.Common.{◌≡◌, ◌==◌, ◌||◌, ◌&&◌, not, ℕ, zero, suc, ◌+◌, ◌-◌, ◌*◌, ◌<◌, ◌≤◌, ◌^◌, Bool, true, false, cond, nat_le, ℤ, FitsSigned, List, [], ◌∷◌, ◌++◌, length, take, drop, Option, Some, None, refl, sym, ap, ◌∙◌, arith}
+use Rattle.std.proofs.Common.{◌≡◌, ℕ, ◌+◌, ◌*◌, ◌<◌, ◌≤◌, ◌^◌, Bool, true, cond, ℤ, FitsSigned, List, [], ◌++◌, length, take, drop, Option, refl, sym, ap, ◌∙◌, arith}
 use Rattle.std.specs.Int.{w32, cast_signed, cast_unsigned}
 use Rattle.std.proofs.lemmas.Bool.{le-leb, and_from}
-use Rattle.std.proofs.lemmas.Bool.Decides.{nat_tests}
 use Rattle.std.proofs.lemmas.Int.{to_z-of_z}
 use Rattle.std.proofs.lemmas.List.{append-nil}
 use Rattle.std.proofs.Math.Facts.{Fits-of_z}
 use Rattle.byteorder.specs.Endian.{little_bytes, little_number}
 use Rattle.byteorder.specs.Numbers.{little_number-reads_back}
 use Rattle.dd_geom.specs.Bytes.{coordinate_bytes, coordinate_at}
-use Rattle.dd_geom.specs.declared.rect.TheConstants.{MAX_SIDE, MAX_PIXELS, MOVE_BYTES, RECT_BYTES}
+use Rattle.dd_geom.specs.declared.rect.TheConstants.{MAX_SIDE, MAX_PIXELS}
 use Rattle.dd_geom.specs.Rect.{IsSize}
 use Rattle.dd_modes.specs.declared.modes.Mode.{Mode}
 use Rattle.dd_modes.specs.declared.modes.Rotation.{Rotation}
 use Rattle.dd_modes.specs.declared.modes.Rotation.TheVariants.{Unspecified, Identity, Rotate90, Rotate180, Rotate270}
-use Rattle.dd_log.specs.declared.answers.FrameInfo.{FrameInfo}
-use Rattle.dd_record.specs.declared.chunk.Chunk.TheVariants.{Opening, Frame, End}
-use Rattle.dd_record.specs.declared.chunk.Parsed.{Parsed}
+use Rattle.dd_record.specs.declared.chunk.Chunk.TheVariants.{Opening, End}
 use Rattle.dd_record.specs.Reading.{Reading, Good, Bad, Short, ◌>>=◌, come, kept, number, coordinate}
 use Rattle.dd_record.specs.Grammar.{width_of, height_of, rotation_of, mode_of, opening_of, tagged, chunk_of}
 use Rattle.dd_record.specs.Writing.{rotation_number, end_bytes, opening_bytes}
@@ -84,7 +81,7 @@ opening_is_read before mode rest size =
     let long : 13 ≤ length bytes = omega arith in
     let wide = and_from _ _ (le-leb 1 mode.width size.wide) (le-leb mode.width MAX_SIDE size.width) in
     let high = and_from _ _ (and_from _ _ (le-leb 1 mode.height size.high) (le-leb mode.height MAX_SIDE size.height))
-        (le-leb (mode.width * mode.height) MAX_PIXELS size.pixels) in
+    (le-leb (mode.width * mode.height) MAX_PIXELS size.pixels) in
     go _ (tagged before bytes) 1 _ (number_is 0 1 1 bytes (omega arith) (omega arith) refl)
     (go _ _ mode _
     (go _ _ mode.width _

@@ -1,5 +1,5 @@
 -- What was read keeps its rules.
-use Rattle.std.proofs.Common.{◌≡◌, ℕ, zero, suc, ◌+◌, ◌-◌, ◌*◌, ◌<◌, ◌≤◌, ◌^◌, Bool, true, false, List, [], ◌∷◌, length, map, refl, sym, ap, ◌∙◌, IsTrue, arith}
+use Rattle.std.proofs.Common.{◌≡◌, ℕ, zero, suc, ◌+◌, ◌-◌, ◌*◌, ◌<◌, ◌≤◌, ◌^◌, Bool, true, false, List, [], ◌∷◌, length, refl, sym, ap, ◌∙◌, IsTrue, arith}
 use Rattle.std.specs.List.{list_all, sum_by}
 use Rattle.std.proofs.lemmas.List.Sums.{sum-map, sum_by-cons}
 use Rattle.std.proofs.lemmas.Bool.{and_from, and_parts}
@@ -10,7 +10,7 @@ use Rattle.dd_geom.specs.declared.rect.TheConstants.{MAX_PIXELS}
 use Rattle.dd_geom.specs.Rect.{IsSize, is_inside, place, points}
 use Rattle.dd_geom.proofs.RectLemmas.{AreInside-sides}
 use Rattle.dd_modes.specs.declared.modes.Mode.{Mode}
-use Rattle.dd_record.specs.Reading.{Reading, Good, Bad, Short, ◌>>=◌, come, kept, fields}
+use Rattle.dd_record.specs.Reading.{Reading, Good, Bad, Short, ◌>>=◌, kept, fields}
 use Rattle.dd_record.specs.Dirt.{are_inside, is_canonical, pixel_count}
 use Rattle.dd_record.specs.Grammar.{rect_at, rects_of, dirt_of}
 

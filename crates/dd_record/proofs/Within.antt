@@ -1,5 +1,5 @@
 -- A bad field is one that has come: its place is none behind the bytes that there are.
-use Rattle.std.proofs.Common.{◌≡◌, ◌==◌, ℕ, zero, suc, ◌+◌, ◌*◌, ◌≤◌, Bool, true, false, cond, nat_le, List, [], ◌∷◌, length, take, drop, Option, Some, None, Result, Ok, Err, refl, subst, arith}
+use Rattle.std.proofs.Common.{◌≡◌, ◌==◌, ℕ, zero, suc, ◌+◌, ◌*◌, ◌≤◌, Bool, true, false, cond, nat_le, List, ◌∷◌, length, take, drop, Option, Some, None, Result, Ok, Err, refl, subst, arith}
 use Rattle.std.specs.Prelude.{⊤}
 use Rattle.std.proofs.Math.Nat.{mul-suc}
 use Rattle.byteorder.specs.Endian.{little_number}
@@ -69,10 +69,10 @@ module _ (bytes : List ℕ) where
   pub come_within : (at size : ℕ) (field : List ℕ) → come at size bytes ≡ Good field → at + size ≤ length bytes
   unfolding come
   come_within at size field e = within (nat_le (at + size) (length bytes)) refl e where
-      within : (b : Bool) → nat_le (at + size) (length bytes) ≡ b
-          → cond b (Good (take size (drop at bytes))) Short ≡ Good field → at + size ≤ length bytes
-      within true is given = leb-true _ _ is
-      within false is given = cc
+    within : (b : Bool) → nat_le (at + size) (length bytes) ≡ b
+        → cond b (Good (take size (drop at bytes))) Short ≡ Good field → at + size ≤ length bytes
+    within true is given = leb-true _ _ is
+    within false is given = cc
 
   module _ {A : Type 0} (at size : ℕ) (f : List ℕ → A) where
     -- what f makes of a field's bytes

@@ -1,5 +1,5 @@
 -- What is read of the bytes that have come: of a field, or of several in order.
-use Rattle.std.specs.Prelude.{◌≡◌, ℕ, ℤ, zero, suc, ◌+◌, nat_le, if◌then◌else◌, Bool, List, [], ◌∷◌, length, take, drop}
+use Rattle.std.specs.Prelude.{ℕ, ℤ, zero, suc, ◌+◌, nat_le, if◌then◌else◌, Bool, List, [], ◌∷◌, length, take, drop}
 use Rattle.byteorder.specs.Endian.{little_number}
 use Rattle.dd_geom.specs.Bytes.{coordinate_at}
 

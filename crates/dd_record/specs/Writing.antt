@@ -1,10 +1,9 @@
 -- The bytes of each chunk, from what it says; and that reading them gives the chunk.
-use Rattle.std.specs.Prelude.{◌≡◌, ℕ, ◌+◌, ◌*◌, ◌≤◌, ◌<◌, ◌^◌, Bool, true, false, if◌then◌else◌, FitsSigned, List, [], ◌∷◌, ◌++◌, length, IsTrue, Option, Some, None, IfSome}
+use Rattle.std.specs.Prelude.{◌≡◌, ℕ, ◌+◌, ◌*◌, ◌≤◌, ◌<◌, Bool, true, if◌then◌else◌, FitsSigned, List, [], ◌∷◌, ◌++◌, length, IsTrue, Option, Some, None, IfSome}
 use Rattle.std.specs.Int.{w32}
 use Rattle.std.specs.List.{flat_map, AllByRecursion}
 use Rattle.byteorder.specs.Endian.{little_bytes}
 use Rattle.dd_geom.specs.declared.rect.Point.{Point}
-use Rattle.dd_geom.specs.declared.rect.Rect.{Rect}
 use Rattle.dd_geom.specs.declared.rect.TheConstants.{MOVE_BYTES, RECT_BYTES}
 use Rattle.dd_geom.specs.Bytes.{coordinate_bytes, rect_bytes, move_bytes}
 use Rattle.dd_geom.specs.Rect.{IsSize, FitsSides, FitsMove, is_inside, is_move_inside}
@@ -15,14 +14,11 @@ use Rattle.dd_modes.specs.declared.modes.Rotation.{Rotation}
 use Rattle.dd_modes.specs.declared.modes.Rotation.TheVariants.{Unspecified, Identity, Rotate90, Rotate180, Rotate270}
 use Rattle.dd_pointer.specs.Shape.{PointerShape, IsShape, number}
 use Rattle.dd_log.specs.declared.answers.FrameInfo.{FrameInfo}
-use Rattle.dd_log.specs.declared.answers.Pointer.{Pointer}
 use Rattle.dd_log.specs.declared.events.TheConstants.{MAX_CAPACITY}
 use Rattle.dd_acc.specs.declared.interval.TheConstants.{MAX_MOVES}
 use Rattle.dd_coal.specs.declared.coalescing.TheConstants.{MAX_RECTS}
-use Rattle.dd_record.specs.declared.chunk.Chunk.{Chunk}
 use Rattle.dd_record.specs.declared.chunk.Chunk.TheVariants.{Opening, Frame, End}
 use Rattle.dd_record.specs.declared.chunk.FrameChunk.{FrameChunk}
-use Rattle.dd_record.specs.declared.chunk.Parsed.{Parsed}
 use Rattle.dd_record.specs.Reading.{Good}
 use Rattle.dd_record.specs.Dirt.{covered_by, pixel_count}
 use Rattle.dd_record.specs.Grammar.{chunk_of}

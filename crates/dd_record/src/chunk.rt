@@ -10,9 +10,7 @@ ghost use Rattle.dd_record.specs.Grammar.{behind_rects, behind_pixels, behind_sh
 use crate::fault::{RecordFault, Stop};
 use crate::fields::u8_at;
 use crate::head::{head_of, mode_of};
-use crate::layout::{
-    END_BYTES, FRAME_HEAD_BYTES, OPENING_BYTES, PIXEL_BYTES, SHAPE_HEAD_BYTES,
-};
+use crate::layout::{END_BYTES, FRAME_HEAD_BYTES, OPENING_BYTES, PIXEL_BYTES, SHAPE_HEAD_BYTES};
 use crate::pixels::pixels_of;
 use crate::rectangles::{dirt_of, moves_of, pixel_count};
 use crate::shapes::new_shape_of;
@@ -27,9 +25,7 @@ use std::alloc::Global;
 #[derive(Debug, Drop)]
 pub enum Chunk {
     /// A duplicator was opened in this mode.
-    Opening {
-        mode: Mode,
-    },
+    Opening { mode: Mode },
     /// A frame was acquired.
     Frame(FrameChunk),
     /// The record ends.

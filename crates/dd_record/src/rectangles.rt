@@ -61,13 +61,7 @@ pub(crate) fn moves_of(
 
 /// So many rectangles from a place on.
 #[tactic(auto, using(crate::proofs::OneByOne::one_by_one))]
-fn rects_of(
-    alloc: Global,
-    mode: Mode,
-    count: u8,
-    bytes: &[u8],
-    at: usize,
-) -> Result<Rects, Stop>
+fn rects_of(alloc: Global, mode: Mode, count: u8, bytes: &[u8], at: usize) -> Result<Rects, Stop>
     requires { at ≤ 2 ^ 40 }
     ensures { Gives result (rects_of mode count bytes.now at) }
 {

@@ -154,10 +154,20 @@ fn changed(rt: &impl Abort, alloc: Global, bytes: &mut [u8], change: &Change) {
     }
     let end = at.saturating_add(size);
     assert!(rt; 1 <= end && end <= bytes.len());
-    let bad = BadField { at: 100 + at as u64 };
+    let bad = BadField {
+        at: 100 + at as u64,
+    };
     assert_eq!(rt; answer(alloc, bytes), Err(bad), "{at}");
-    assert_eq!(rt; answer(alloc, &bytes[..end]), Err(bad), "{at}, all that has come");
-    assert_eq!(rt; answer(alloc, &bytes[..end - 1]), Ok(false), "{at}, not whole");
+    assert_eq!(rt;
+        answer(alloc, &bytes[..end]),
+        Err(bad),
+        "{at}, all that has come"
+    );
+    assert_eq!(rt;
+        answer(alloc, &bytes[..end - 1]),
+        Ok(false),
+        "{at}, not whole"
+    );
 }
 
 #[test]
@@ -247,7 +257,10 @@ fn a_frame_with_all_parts(rt: HostRuntime) -> Result<(), Fail> {
     };
     assert_eq!(rt; frame.info.pointer.position, Point { x: -1, y: 1 });
     assert_eq!(rt; frame.moves.as_slice(), [scrolled].as_slice());
-    assert_eq!(rt; frame.pixels.as_slice(), [0x03_0201, 0x06_0504, 0x09_0807].as_slice());
+    assert_eq!(rt;
+        frame.pixels.as_slice(),
+        [0x03_0201, 0x06_0504, 0x09_0807].as_slice()
+    );
     let shape = frame.shape.ok_or("no shape")?;
     assert_eq!(rt; shape.bytes(), [15, 15, 15, 255].as_slice());
     Ok(())

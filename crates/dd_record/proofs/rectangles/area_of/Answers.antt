@@ -15,8 +15,8 @@ loop-rect-preserved c =
     let r : Rect = get_or c.args.rects.now c.loop-rect.rect-index (record { left = pos 0; top = pos 0; right = pos 0; bottom = pos 0 }) in
     record {
       so_far =
-        c.in_ok-add.ensures.ok ∙ ap (λ (g : Grid Bool). with_rect g r) old.so_far
-        ∙ covered_more mode.width mode.height c.args.rects.now c.loop-rect.rect-index _ c.loop-rect-test.true;
+          c.in_ok-add.ensures.ok ∙ ap (λ (g : Grid Bool). with_rect g r) old.so_far
+          ∙ covered_more mode.width mode.height c.args.rects.now c.loop-rect.rect-index _ c.loop-rect-test.true;
       width = size.width ∙ old.width;
       height = size.height ∙ old.height;
     }
