@@ -5,7 +5,7 @@ use Rattle.std.proofs.lemmas.Bool.Decides.{nat_tests}
 use Rattle.std.proofs.lemmas.Nat.{mul-le, row_fits_turned}
 use Rattle.dd_pointer.specs.declared.kind.Kind.{Kind}
 use Rattle.dd_pointer.specs.declared.kind.Kind.TheVariants.{Monochrome, Color, MaskedColor}
-use Rattle.dd_pointer.specs.declared.kind.TheConstants.{MAX_WIDTH, MAX_BYTES}
+use Rattle.dd_pointer.specs.declared.kind.TheConstants.{MAX_WIDTH, MAX_MASK_HEIGHT, MAX_BYTES}
 use Rattle.dd_pointer.specs.Shape.{pitch, required, is_height, is_size, shape_fault, number, kind_of, read_as, unless, ShapeIsRead}
 use borrow.Author.Tests.{leb-true, eqb-true}
 
@@ -64,6 +64,34 @@ pub shape_is_read : ShapeIsRead
 shape_is_read s e =
     ap (λ k. read_as k s.width s.height s.hot s.bytes) (kind_of-number s.kind)
     ∙ ap (λ fault. unless fault s) e
+
+-- and it has some
+pub required_some : (kind : Kind) (w h : ℕ) → is_size kind w h ≡ true → 1 ≤ pitch kind w * h
+required_some Monochrome w h e =
+    let both = and_parts (nat_le 1 w && nat_le w MAX_WIDTH) (is_height Monochrome h) e in
+    let across : 1 ≤ (w + 7) / 8 = grind (arith, nat_tests) in
+    let down : 1 ≤ h = grind (arith, nat_tests) in
+    omega (arith, mul-le 1 1 ((w + 7) / 8) h across down)
+required_some Color w h e =
+    let across : 1 ≤ 4 * w = grind (arith, nat_tests) in
+    let down : 1 ≤ h = grind (arith, nat_tests) in
+    omega (arith, mul-le 1 1 (4 * w) h across down)
+required_some MaskedColor w h e =
+    let across : 1 ≤ 4 * w = grind (arith, nat_tests) in
+    let down : 1 ≤ h = grind (arith, nat_tests) in
+    omega (arith, mul-le 1 1 (4 * w) h across down)
+
+-- a kind allows no more rows than two masks have
+pub height_few : (kind : Kind) (h : ℕ) → is_height kind h ≡ true → h ≤ MAX_MASK_HEIGHT
+height_few Monochrome h e = grind (arith, nat_tests)
+height_few Color h e = grind (arith, nat_tests)
+height_few MaskedColor h e = grind (arith, nat_tests)
+
+-- a kind's number is small
+pub number_small : (kind : Kind) → number kind ≤ 4
+number_small Monochrome = omega arith
+number_small Color = omega arith
+number_small MaskedColor = omega arith
 
 -- the byte of a pixel's bit lies in a mask
 pub mask_inside :

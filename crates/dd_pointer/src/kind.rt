@@ -85,14 +85,14 @@ impl Kind {
     }
 
     /// Whether a shape of this kind may have this size.
-    pub(crate) fn allows_size(self, width: u32, height: u32) -> bool
+    pub fn allows_size(self, width: u32, height: u32) -> bool
         ensures { result ≡ is_size self width height }
     {
         1 <= width && width <= MAX_WIDTH && self.allows_height(height)
     }
 
-    /// How many bytes a shape of this kind and size has.
-    pub(crate) fn required(self, width: u32, height: u32) -> u32
+    /// How many bytes a shape of this kind and size has. The size has to be one that it may have.
+    pub fn required(self, width: u32, height: u32) -> u32
         requires { IsTrue (is_size self width height) }
         ensures value { result ≡ required self width height }
         ensures few { result ≤ MAX_BYTES }

@@ -1,0 +1,10 @@
+pub mod Canonical
+pub mod Covering
+pub mod Examples
+pub mod FrameBack
+pub mod HeadBack
+pub mod ListsBack
+pub mod OneByOne
+pub mod ReadBack
+pub mod Rules
+pub mod Within

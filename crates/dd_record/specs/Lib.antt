@@ -1,0 +1,5 @@
+pub mod Reading
+pub mod Answers
+pub mod Dirt
+pub mod Grammar
+pub mod Writing
