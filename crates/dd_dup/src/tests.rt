@@ -171,12 +171,6 @@ fn calls_are_answered(rt: HostRuntime) -> Result<(), Fail> {
     assert!(rt; matches!(&frame, Answer::Frame { .. }));
     let surface = dup.ask(&log, DupCall::Surface)?;
     assert!(rt; matches!(&surface, Answer::Surface(Some(_))));
-    let moves = dup.ask(&log, DupCall::Moves { buffer: 0 })?;
-    assert!(rt; matches!(&moves, Answer::Buffer { size: 0, .. }));
-    let dirt = dup.ask(&log, DupCall::Dirty { buffer: 16 })?;
-    assert!(rt; matches!(&dirt, Answer::Buffer { size: 16, .. }));
-    let shape = dup.ask(&log, DupCall::Shape { buffer: 1 })?;
-    assert!(rt; matches!(&shape, Answer::ShapeBuffer { size: 0, shape: None, .. }));
     let released = dup.ask(&log, DupCall::Release)?;
     assert!(rt; matches!(&released, Answer::Released));
     let nothing_new = Err(DupRefusal::WaitTimeout);
