@@ -1,6 +1,6 @@
 -- The sizes of a record's parts, and the chunks of a whole record, written and read: a surface of two points, of which
 -- the left one was filled with red.
-use Rattle.std.proofs.Common.{◌≡◌, ℕ, pos, false, List, [], ◌∷◌, ◌++◌, Some, None, refl}
+use Rattle.std.proofs.Common.{◌≡◌, ℕ, pos, false, List, [], ◌∷◌, ◌++◌, Some, None, refl, arith}
 use Rattle.dd_geom.specs.Bytes.{rect_bytes, rect_of}
 use Rattle.dd_bits.specs.CanonicalList.{run_end, same_rows, canonical_list}
 use Rattle.dd_modes.specs.declared.modes.Mode.{Mode}
@@ -11,7 +11,7 @@ use Rattle.dd_record.specs.declared.layout.TheConstants.{END_BYTES, OPENING_BYTE
 use Rattle.dd_record.specs.Reading.{Good, Bad, Short, come, kept}
 use Rattle.dd_record.specs.Dirt.{is_canonical}
 use Rattle.dd_record.specs.Grammar.{width_of, height_of, mode_of, opening_of, last_present_of, last_mouse_of, accumulated_of, coalesced_of, protected_of, pointer_of, meta_of, shape_size_of, move_count_of, rect_count_of, info_of, head_of, rect_at, dirt_of, pixel_at, new_shape_of, frame_chunk_of, frame_of, chunk_of}
-use Rattle.dd_record.specs.Writing.{opening_bytes, head_bytes, pixel_bytes, frame_bytes, end_bytes}
+use Rattle.dd_record.specs.Writing.{opening_bytes, head_bytes, pixel_bytes, frame_bytes, end_bytes, KeepsRules}
 
 end_size : END_BYTES ≡ 1
 end_size = refl
@@ -28,7 +28,7 @@ pixel_size = refl
 shape_head_size : SHAPE_HEAD_BYTES ≡ 20
 shape_head_size = refl
 
-abbrev two_points : Mode
+abbrev pub two_points : Mode
 two_points = record { width = 2; height = 1; rotation = Identity }
 
 abbrev opening : List ℕ
@@ -42,7 +42,7 @@ opening_read : chunk_of None opening ≡ Good (record { chunk = Opening two_poin
 unfolding chunk_of opening_of mode_of width_of height_of come kept
 opening_read = refl
 
-abbrev red : FrameChunk
+abbrev pub red : FrameChunk
 red =
     record {
       info =
@@ -60,6 +60,37 @@ red =
       dirt = record { left = pos 0; top = pos 0; right = pos 1; bottom = pos 1 } ∷ [];
       pixels = 0xff0000 ∷ [];
       shape = None;
+    }
+
+-- it keeps the rules
+red_keeps : KeepsRules two_points red
+unfolding canonical_list same_rows run_end
+red_keeps =
+    record {
+      info =
+          record {
+            last_present = omega arith;
+            last_mouse = omega arith;
+            some = omega arith;
+            accumulated = omega arith;
+            presents = λ e. omega arith;
+            coalesced = λ e. omega arith;
+            news = λ e. omega arith;
+            shape = λ e. e;
+            x = omega arith;
+            y = omega arith;
+          };
+      meta = refl;
+      shape_size = refl;
+      few_moves = omega arith;
+      few_rects = omega arith;
+      moves = tt;
+      rects =
+          ((record { left = omega arith; top = omega arith; right = omega arith; bottom = omega arith }, refl), tt);
+      dirt = refl;
+      pixels = refl;
+      colours = (omega arith, tt);
+      shape = tt;
     }
 
 -- all of the frame chunk but the last byte of its pixel

@@ -80,7 +80,8 @@ module _ (s : PointerShape) (keeps : KeepsShape s) where
       let head : List ℕ = shape_head_bytes s in
       let first : bytes ≡ before ++ (head ++ (s.bytes ++ rest)) =
       is ∙ ap (λ (r : List ℕ). before ++ r) (append_assoc head s.bytes rest) in
-      let second : bytes ≡ (before ++ head) ++ (s.bytes ++ rest) = first ∙ sym (append_assoc before head (s.bytes ++ rest)) in
+      let second : bytes ≡ (before ++ head) ++ (s.bytes ++ rest) =
+      first ∙ sym (append_assoc before head (s.bytes ++ rest)) in
       let place : length (before ++ head) ≡ length before + SHAPE_HEAD_BYTES =
       length-append before head ∙ ap (λ (k : ℕ). length before + k) length-shape_head_bytes in
       go _ _ the_head _

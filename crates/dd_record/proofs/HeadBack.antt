@@ -68,7 +68,8 @@ module _ (info : FrameInfo) (moves rects : ℕ) (rest : List ℕ) (keeps : Keeps
   last_mouse_is =
       go _ _ info.last_mouse _
       (number_is 9 8 info.last_mouse bytes (omega (arith, keeps.last_mouse)) (omega (arith, long)) refl)
-      (kept_good 9 _ _ (and_from _ _ (le-leb _ _ keeps.last_mouse) (some_is info.last_present info.last_mouse keeps.some)))
+      (kept_good 9 _ _
+      (and_from _ _ (le-leb _ _ keeps.last_mouse) (some_is info.last_present info.last_mouse keeps.some)))
 
   accumulated_is : accumulated_of info.last_present bytes ≡ Good info.accumulated
   unfolding accumulated_of head_bytes

@@ -36,7 +36,8 @@ piece_come before field rest bytes size sized is =
 
 module _ {A : Type 0} (f : ℕ → Reading A) (write : A → List ℕ) (P : A → Type 0) (size : ℕ) (bytes : List ℕ)
     (sized : (x : A) → length (write x) ≡ size)
-    (one : (before rest : List ℕ) (x : A) → bytes ≡ before ++ (write x ++ rest) → P x → f (length before) ≡ Good x) where
+    (one : (before rest : List ℕ) (x : A) → bytes ≡ before ++ (write x ++ rest) → P x
+    → f (length before) ≡ Good x) where
   -- fields that were written one after another
   pub fields_are : (before rest : List ℕ) (xs : List A) → bytes ≡ before ++ (flat_map write xs ++ rest)
       → AllByRecursion P xs → fields f size (length before) (length xs) ≡ Good xs

@@ -33,7 +33,8 @@ pub number_is : (at size n : ℕ) (bytes : List ℕ) → n < 256 ^ size → at +
     → take size (drop at bytes) ≡ little_bytes size n → number at size bytes ≡ Good n
 number_is at size n bytes small within is =
     ap (λ r. r >>= λ field. Good (little_number size field)) (come_is at size bytes (little_bytes size n) within is)
-    ∙ ap Good (ap (little_number size) (sym (append-nil (little_bytes size n))) ∙ little_number-reads_back size n [] small)
+    ∙ ap Good (ap (little_number size) (sym (append-nil (little_bytes size n)))
+    ∙ little_number-reads_back size n [] small)
 
 pub coordinate_is_read : (z : ℤ) (rest : List ℕ) → FitsSigned w32 z
     → coordinate_at (coordinate_bytes z ++ rest) 0 ≡ z
@@ -45,7 +46,8 @@ pub coordinate_is : (at : ℕ) (z : ℤ) (bytes : List ℕ) → FitsSigned w32 z
     → take 4 (drop at bytes) ≡ coordinate_bytes z → coordinate at bytes ≡ Good z
 coordinate_is at z bytes fits within is =
     ap (λ r. r >>= λ field. Good (coordinate_at field 0)) (come_is at 4 bytes (coordinate_bytes z) within is)
-    ∙ ap Good (ap (λ field. coordinate_at field 0) (sym (append-nil (coordinate_bytes z))) ∙ coordinate_is_read z [] fits)
+    ∙ ap Good (ap (λ field. coordinate_at field 0) (sym (append-nil (coordinate_bytes z)))
+    ∙ coordinate_is_read z [] fits)
 
 -- a field and those behind it
 pub go : {A B : Type 0} (r : Reading A) (f : A → Reading B) (x : A) (y : Reading B) → r ≡ Good x → f x ≡ y

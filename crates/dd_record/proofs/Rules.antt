@@ -56,7 +56,7 @@ rects_inside mode n bytes at rects e =
 
 -- ---- the dirty rectangles have few points
 
-length-fields : {A : Type 0} (f : ℕ → Reading A) (size at n : ℕ) (xs : List A) → fields f size at n ≡ Good xs
+pub length-fields : {A : Type 0} (f : ℕ → Reading A) (size at n : ℕ) (xs : List A) → fields f size at n ≡ Good xs
     → length xs ≡ n
 length-fields f size at zero [] e = refl
 length-fields f size at zero (x ∷ xs) e = cc
@@ -86,8 +86,9 @@ pub dirt_few : (mode : Mode) (n : ℕ) (bytes : List ℕ) (at : ℕ) (rects : Li
     → n < 256 → dirt_of mode n bytes at ≡ Good rects → pixel_count rects ≤ 2 ^ 32
 unfolding dirt_of
 dirt_few mode n bytes at rects size few e =
-    let a = parts (rects_of mode n bytes at) (λ rects. kept at (is_canonical mode.width mode.height rects) rects) rects e in
-    let k = kept_is at (is_canonical mode.width mode.height a.0) a.0 rects a.2 in
+    let rule : List Rect → Bool = is_canonical mode.width mode.height in
+    let a = parts (rects_of mode n bytes at) (λ rects. kept at (rule rects) rects) rects e in
+    let k = kept_is at (rule a.0) a.0 rects a.2 in
     let count = length-fields (rect_at mode bytes) _ at n a.0 a.1 in
     let inside = rects_inside mode n bytes at a.0 a.1 in
     let sum = pixels_few mode a.0 size inside in

@@ -51,7 +51,8 @@ module _ (n : ℕ) where
     pub fields_come : (f : ℕ → Reading A) → ((at : ℕ) → HasCome (f at)) → (size at k : ℕ) → HasCome (fields f size at k)
     fields_come f one size at zero = tt
     fields_come f one size at (suc k) =
-        then (f at) _ (one at) (λ x _. then (fields f size (at + size) k) _ (fields_come f one size (at + size) k) (λ xs _. tt))
+        then (f at) _ (one at) (λ x _.
+        then (fields f size (at + size) k) _ (fields_come f one size (at + size) k) (λ xs _. tt))
 
   if_come : {A : Type 0} (b : Bool) (r s : Reading A) → HasCome r → HasCome s → HasCome (cond b r s)
   if_come true r s first second = first
@@ -82,7 +83,7 @@ module _ (bytes : List ℕ) where
     made_come : Came made
     made_come = then (length bytes) (come at size bytes) _ (come_come at size) (λ field _. tt)
 
-    made_within : (x : A) → made ≡ Good x → at + size ≤ length bytes
+    pub made_within : (x : A) → made ≡ Good x → at + size ≤ length bytes
     made_within x e =
         let a = parts (come at size bytes) (λ field. Good (f field)) x e in
         come_within at size a.0 a.1
@@ -158,7 +159,7 @@ module _ (bytes : List ℕ) where
       then _ _ _ (come_come at _) (λ field is.
       kept_come _ at _ (little_number 3 field) (omega (arith, come_within at _ field is)))
 
-  moves_within : (mode : Mode) (k at : ℕ) (moves : List Move) → at ≤ length bytes
+  pub moves_within : (mode : Mode) (k at : ℕ) (moves : List Move) → at ≤ length bytes
       → moves_of mode k bytes at ≡ Good moves → at + MOVE_BYTES * k ≤ length bytes
   unfolding move_at
   moves_within mode k at moves start e =
@@ -166,7 +167,7 @@ module _ (bytes : List ℕ) where
       let a = parts (come place MOVE_BYTES bytes >>= λ field. Good (move_of field)) _ m is in
       made_within place MOVE_BYTES move_of a.0 a.1) at k moves start e
 
-  head_within : (head : Head) → head_of bytes ≡ Good head → FRAME_HEAD_BYTES ≤ length bytes
+  pub head_within : (head : Head) → head_of bytes ≡ Good head → FRAME_HEAD_BYTES ≤ length bytes
   unfolding head_of rect_count_of
   head_within head e =
       let a = parts (info_of bytes) _ head e in

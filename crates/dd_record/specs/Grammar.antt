@@ -1,6 +1,6 @@
--- The chunks of a record, field by field: the place of each, counted from the chunk's tag, its size, and its rule, which
--- speaks of this field and those before it. Numbers stand lowest byte first.
-use Rattle.std.specs.Prelude.{◌≡◌, ℕ, ◌+◌, ◌*◌, ◌≤◌, nat_le, Bool, false, not, ◌&&◌, ◌||◌, ◌==◌, if◌then◌else◌, List, length, drop, slice_index_or, Option, Some, None, Result, Ok, Err}
+-- The chunks of a record, field by field: the place of each, counted from the chunk's tag, its size, and its rule,
+-- which speaks of this field and those before it. Numbers stand lowest byte first.
+use Rattle.std.specs.Prelude.{◌≡◌, ℕ, ◌+◌, ◌*◌, ◌≤◌, nat_le, Bool, false, not, ◌&&◌, ◌||◌, ◌==◌, if◌then◌else◌, List, ◌++◌, length, drop, slice_index_or, Option, Some, None, Result, Ok, Err}
 use Rattle.byteorder.specs.Endian.{little_number}
 use Rattle.dd_geom.specs.declared.rect.TheConstants.{MAX_SIDE, MAX_PIXELS, MOVE_BYTES, RECT_BYTES}
 use Rattle.dd_geom.specs.declared.rect.Rect.{Rect}
@@ -28,7 +28,7 @@ use Rattle.dd_record.specs.declared.fault.RecordFault.TheVariants.{BadMagic, Bad
 use Rattle.dd_record.specs.declared.head.Head.{Head}
 use Rattle.dd_record.specs.declared.shapes.ShapeHead.{ShapeHead}
 use Rattle.dd_record.specs.declared.layout.TheConstants.{END_BYTES, OPENING_BYTES, FRAME_HEAD_BYTES, PIXEL_BYTES, SHAPE_HEAD_BYTES}
-use Rattle.dd_record.specs.Reading.{Reading, Good, Bad, Short, ◌>>=◌, come, kept, number, coordinate, fields}
+use Rattle.dd_record.specs.Reading.{Reading, Good, Bad, Short, Stays, ◌>>=◌, come, kept, number, coordinate, fields}
 use Rattle.dd_record.specs.Dirt.{is_canonical, pixel_count}
 
 -- ---- rules
@@ -277,6 +277,11 @@ chunk_of mode bytes = number 0 1 bytes >>= tagged mode bytes
 abbrev pub BadHasCome : Type 0
 BadHasCome =
     (mode : Option Mode) (bytes : List ℕ) (at : ℕ) → chunk_of mode bytes ≡ Bad at → at ≤ length bytes
+
+-- a whole chunk and a bad field stay, whatever bytes come behind
+abbrev pub ReadingStays : Type 0
+ReadingStays =
+    (mode : Option Mode) (bytes more : List ℕ) → Stays (chunk_of mode bytes) (chunk_of mode (bytes ++ more))
 
 -- ---- what is answered of a chunk whose tag stands at a place of the record
 

@@ -3,3 +3,7 @@ pub mod Answers
 pub mod Dirt
 pub mod Grammar
 pub mod Writing
+pub mod Fitting
+pub mod Sinks
+pub mod Frames
+pub mod Pages

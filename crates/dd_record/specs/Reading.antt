@@ -1,5 +1,5 @@
 -- What is read of the bytes that have come: of a field, or of several in order.
-use Rattle.std.specs.Prelude.{ℕ, ℤ, zero, suc, ◌+◌, nat_le, if◌then◌else◌, Bool, List, [], ◌∷◌, length, take, drop}
+use Rattle.std.specs.Prelude.{◌≡◌, ⊤, ℕ, ℤ, zero, suc, ◌+◌, nat_le, if◌then◌else◌, Bool, List, [], ◌∷◌, length, take, drop}
 use Rattle.byteorder.specs.Endian.{little_number}
 use Rattle.dd_geom.specs.Bytes.{coordinate_at}
 
@@ -16,6 +16,18 @@ abbrev pub ◌>>=◌ : {A B : Type 0} → Reading A → (A → Reading B) → Re
 (Good x) >>= f = f x
 (Bad at) >>= f = Bad at
 Short >>= f = Short
+
+-- what was read stays when more bytes come: only what was short may change
+abbrev pub Stays : {A : Type 0} → Reading A → Reading A → Type 0
+Stays (Good x) later = later ≡ Good x
+Stays (Bad at) later = later ≡ Bad at
+Stays Short later = ⊤
+
+-- no field that has come is bad
+abbrev pub NothingBad : {A : Type 0} → Reading A → Type 0
+NothingBad (Good x) = ⊤
+NothingBad (Bad at) = ⊥
+NothingBad Short = ⊤
 
 -- the bytes of a field of a size at a place, once all of them have come
 unfoldable pub come : ℕ → ℕ → List ℕ → Reading (List ℕ)

@@ -17,6 +17,7 @@ use Rattle.dd_log.specs.declared.answers.FrameInfo.{FrameInfo}
 use Rattle.dd_log.specs.declared.events.TheConstants.{MAX_CAPACITY}
 use Rattle.dd_acc.specs.declared.interval.TheConstants.{MAX_MOVES}
 use Rattle.dd_coal.specs.declared.coalescing.TheConstants.{MAX_RECTS}
+use Rattle.dd_record.specs.declared.chunk.Chunk.{Chunk}
 use Rattle.dd_record.specs.declared.chunk.Chunk.TheVariants.{Opening, Frame, End}
 use Rattle.dd_record.specs.declared.chunk.FrameChunk.{FrameChunk}
 use Rattle.dd_record.specs.Reading.{Good}
@@ -84,6 +85,20 @@ frame_bytes f =
     ++ (flat_map rect_bytes f.dirt
     ++ (flat_map pixel_bytes f.pixels
     ++ shape_bytes f.shape)))
+
+-- the bytes that a record begins with: DDR1
+unfoldable pub magic : List ℕ
+magic = 68 ∷ 68 ∷ 82 ∷ 49 ∷ []
+
+-- the bytes of a chunk
+abbrev pub chunk_bytes : Chunk → List ℕ
+chunk_bytes (Opening mode) = opening_bytes mode
+chunk_bytes (Frame f) = frame_bytes f
+chunk_bytes End = end_bytes
+
+-- the bytes of a record of some chunks: the magic, the chunks, and the end
+unfoldable pub record_bytes : List Chunk → List ℕ
+record_bytes chunks = magic ++ flat_map chunk_bytes chunks ++ end_bytes
 
 -- ---- what a record may say
 

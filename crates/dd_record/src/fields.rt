@@ -1,7 +1,5 @@
 //! Fields of a size at a place, once all of their bytes have come.
 
-ghost use Rattle.std.specs.Prelude.{◌≡◌};
-ghost use Rattle.std.specs.Int.{w32, cast_signed};
 ghost use Rattle.dd_record.specs.Answers.{Gives};
 ghost use Rattle.dd_record.specs.Reading.{come, kept, number, coordinate};
 

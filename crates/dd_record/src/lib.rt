@@ -7,12 +7,17 @@ mod fields;
 mod head;
 mod laws;
 mod layout;
+mod pages;
 mod pixels;
 mod rectangles;
 mod shapes;
 #[cfg(test)]
 mod tests;
+mod writing;
 
-pub use chunk::{Chunk, FrameChunk, Parsed, parse_chunk};
+pub use chunk::{Chunk, FrameChunk, Parsed, parse_chunk, parse_chunk_from};
 pub use fault::RecordFault;
-pub use laws::{bad_has_come, reads_what_is_written, tells_canonical};
+pub use laws::{
+    bad_has_come, frames_keep_rules, reading_stays, reads_what_is_written, tells_canonical,
+};
+pub use writing::{write_end, write_frame, write_magic, write_opening};

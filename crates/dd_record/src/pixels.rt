@@ -1,7 +1,8 @@
 //! The pixels of a frame's dirty rectangles.
 
-ghost use Rattle.std.specs.Prelude.{◌≡◌, ◌≤◌, ◌^◌};
-ghost use Rattle.dd_record.specs.Answers.{Gives};
+ghost use Rattle.std.specs.Prelude.{◌≤◌, ◌^◌, length, take};
+ghost use Rattle.dd_record.specs.Answers.{Gives, IsGood, Passes};
+ghost use Rattle.dd_record.specs.Reading.{NothingBad};
 ghost use Rattle.dd_record.specs.Grammar.{pixel_at, pixels_of};
 
 use crate::fault::Stop;
@@ -20,7 +21,24 @@ fn pixel_at(bytes: &[u8], at: usize) -> Result<u32, Stop>
     kept(at, field[3] == 255, LittleEndian::read_u24(&field))
 }
 
-/// The colours of so many pixels from a place on.
+/// Tests so many pixels from a place on, of which those within the first `good` bytes were tested
+/// before.
+#[tactic(auto, using(crate::proofs::Before::testing))]
+pub(crate) fn pixels_good(count: usize, bytes: &[u8], at: usize, good: usize) -> Result<(), Stop>
+    requires place { at ≤ 2 ^ 40 }
+    requires few { count ≤ 2 ^ 32 }
+    requires good { good ≤ length bytes.now }
+    requires before { NothingBad (pixels_of count (take good bytes.now) at) }
+    ensures { Passes result (pixels_of count bytes.now at) }
+{
+    let tested = count.min(good.saturating_sub(at) / PIXEL_BYTES);
+    for i in tested..count {
+        pixel_at(bytes, at + PIXEL_BYTES * i)?;
+    }
+    Ok(())
+}
+
+/// The colours of so many pixels from a place on, which were tested.
 #[tactic(auto, using(crate::proofs::OneByOne::one_by_one))]
 pub(crate) fn pixels_of(
     alloc: Global,
@@ -30,10 +48,11 @@ pub(crate) fn pixels_of(
 ) -> Result<Colours, Stop>
     requires place { at ≤ 2 ^ 40 }
     requires few { count ≤ 2 ^ 32 }
+    requires tested { IsGood (pixels_of count bytes.now at) }
     ensures { Gives result (pixels_of count bytes.now at) }
 {
-    // No more than have come are read, whatever the count is.
-    let mut colours = Vec::with_capacity(alloc, count.min(bytes.len() / PIXEL_BYTES))?;
+    // All of them have come, so this is no more memory than the bytes take.
+    let mut colours = Vec::with_capacity(alloc, count)?;
     for i in 0..count {
         let colour = pixel_at(bytes, at + PIXEL_BYTES * i)?;
         colours.push(colour)?;

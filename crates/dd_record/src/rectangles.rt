@@ -1,6 +1,6 @@
 //! The moves and the dirty rectangles of a frame.
 
-ghost use Rattle.std.specs.Prelude.{◌≡◌, ◌≤◌, ◌+◌, ◌*◌, ◌^◌, length, IfOk, IsTrue};
+ghost use Rattle.std.specs.Prelude.{◌≡◌, ◌≤◌, ◌^◌, IfOk, IsTrue};
 ghost use Rattle.dd_geom.specs.Rect.{IsSize};
 ghost use Rattle.dd_record.specs.Answers.{Gives};
 ghost use Rattle.dd_record.specs.Dirt.{are_inside, covered_by, is_canonical, pixel_count};
@@ -8,7 +8,6 @@ ghost use Rattle.dd_record.specs.Grammar.{move_at, moves_of, rect_at, rects_of, 
 
 use crate::fault::Stop;
 use crate::fields::{come, kept};
-use crate::layout::FRAME_HEAD_BYTES;
 use dd_bits::Area;
 use dd_geom::{
     MOVE_BYTES, Move, Moves, RECT_BYTES, Rect, Rects, move_inside, move_of, point_count,

@@ -1,8 +1,7 @@
 //! The shape behind a frame's pixels.
 
-ghost use Rattle.std.specs.Prelude.{◌≡◌, ◌+◌, ◌≤◌, ◌^◌, length};
-ghost use Rattle.dd_pointer.specs.Shape.{kind_of, is_size, reading};
-ghost use Rattle.dd_record.specs.declared.layout.TheConstants.{SHAPE_HEAD_BYTES};
+ghost use Rattle.std.specs.Prelude.{◌≡◌, ◌≤◌, ◌^◌};
+ghost use Rattle.dd_pointer.specs.Shape.{reading};
 ghost use Rattle.dd_record.specs.Answers.{Gives};
 ghost use Rattle.dd_record.specs.Grammar.{has_bytes, shape_head, shape_head_at, or_bad, shape_at, new_shape_of};
 

@@ -1,11 +1,18 @@
-//! Chunks that are read, are not whole, or have one bad field, with bytes and places worked out by hand.
+//! Chunks that are read, are not whole, or have one bad field, and a record that is written, with bytes and
+//! places worked out by hand.
 
-ghost use Rattle.std.specs.Prelude.{IfSome};
+ghost use Rattle.std.specs.Prelude.{◌≤◌, length, IfSome};
 ghost use Rattle.dd_geom.specs.Rect.{IsSize};
 
 use crate::RecordFault::BadField;
-use crate::{Chunk, Parsed, RecordFault, parse_chunk};
+use crate::writing::write_parts;
+use crate::{
+    Chunk, Parsed, RecordFault, bad_has_come, parse_chunk, parse_chunk_from, reading_stays,
+    reads_what_is_written, tells_canonical, write_end, write_magic, write_opening,
+};
 use dd_geom::{Move, Point, Rect};
+use dd_grid::Surface;
+use dd_io::{Failed, MemSink, Numbers, Sink};
 use dd_log::{FrameInfo, Pointer};
 use dd_modes::{Mode, Rotation};
 use std::alloc::Global;
@@ -59,6 +66,12 @@ static FRAME: [u8; 134] = [
     1, 2, 3, 255, 4, 5, 6, 255, 7, 8, 9, 255, // 98: the pixels
     4, 0, 0, 0, 1, 0, 0, 0, 1, 0, 0, 0, 0, 0, 0, 0, 0, 0, 0, 0, // 110: the shape
     15, 15, 15, 255, // 130: its bytes
+];
+
+/// A frame chunk of the pointer alone, at (2, 0) and hidden.
+static POINTER: [u8; 42] = [
+    2, 0, 0, 0, 0, 0, 0, 0, 0, 9, 0, 0, 0, 0, 0, 0, 0, 0, 0, 0, 0, 0, 0, //
+    2, 0, 0, 0, 0, 0, 0, 0, 0, 0, 0, 0, 0, 0, 0, 0, 0, 0, 0,
 ];
 
 /// Bytes that are changed, the place of the field that is bad then, and its size.
@@ -142,6 +155,7 @@ fn prefixes(rt: &impl Abort, alloc: Global, chunk: &[u8]) {
 fn no_prefix_is_whole(rt: HostRuntime) {
     prefixes(&rt, rt.alloc(), &OPENING);
     prefixes(&rt, rt.alloc(), &FRAME);
+    prefixes(&rt, rt.alloc(), &POINTER);
     prefixes(&rt, rt.alloc(), &[0]);
 }
 
@@ -205,6 +219,29 @@ fn chunks_of_a_record(rt: HostRuntime) -> Result<(), Fail> {
     Ok(())
 }
 
+/// What that record tells of its frame.
+const RED_INFO: FrameInfo = FrameInfo {
+    last_present: 2,
+    last_mouse: 0,
+    accumulated: 1,
+    coalesced: false,
+    protected: false,
+    pointer: Pointer {
+        position: Point { x: 0, y: 0 },
+        visible: false,
+    },
+    meta_size: 16,
+    shape_size: 0,
+};
+
+/// The point that is red.
+const RED_POINT: Rect = Rect {
+    left: 0,
+    top: 0,
+    right: 1,
+    bottom: 1,
+};
+
 #[test]
 fn a_frame_of_a_record(rt: HostRuntime) -> Result<(), Fail> {
     let parsed = chunk_at(rt.alloc(), 17, Some(TWO_POINTS))?;
@@ -212,28 +249,9 @@ fn a_frame_of_a_record(rt: HostRuntime) -> Result<(), Fail> {
     let Chunk::Frame(frame) = parsed.chunk else {
         return Err("no frame")?;
     };
-    let info = FrameInfo {
-        last_present: 2,
-        last_mouse: 0,
-        accumulated: 1,
-        coalesced: false,
-        protected: false,
-        pointer: Pointer {
-            position: Point { x: 0, y: 0 },
-            visible: false,
-        },
-        meta_size: 16,
-        shape_size: 0,
-    };
-    let red = Rect {
-        left: 0,
-        top: 0,
-        right: 1,
-        bottom: 1,
-    };
-    assert_eq!(rt; frame.info, info);
+    assert_eq!(rt; frame.info, RED_INFO);
     assert_eq!(rt; frame.moves.as_slice().len(), 0);
-    assert_eq!(rt; frame.dirt.as_slice(), [red].as_slice());
+    assert_eq!(rt; frame.dirt.as_slice(), [RED_POINT].as_slice());
     assert_eq!(rt; frame.pixels.as_slice(), [0xff_0000].as_slice());
     assert!(rt; frame.shape.is_none());
     Ok(())
@@ -266,10 +284,109 @@ fn a_frame_with_all_parts(rt: HostRuntime) -> Result<(), Fail> {
     Ok(())
 }
 
+/// Reads a chunk at byte 100, of which `size` bytes come first.
+#[tactic(auto, using(crate::proofs::Before::none_is_good))]
+fn in_two(
+    alloc: Global,
+    bytes: &[u8],
+    size: usize,
+    mode: Mode,
+) -> Result<Option<Parsed>, RecordFault>
+    requires size { IsSize mode.width mode.height }
+    requires first { size ≤ length bytes.now }
+{
+    match parse_chunk(alloc, &bytes[..size], 100, Some(mode))? {
+        Some(parsed) => Ok(Some(parsed)),
+        None => parse_chunk_from(alloc, bytes, 100, Some(mode), size as u64),
+    }
+}
+
+#[test]
+fn a_frame_in_two_pieces(rt: HostRuntime) -> Result<(), Fail> {
+    let parsed = in_two(rt.alloc(), &RECORD[17..79], 61, TWO_POINTS)?.ok_or("not whole")?;
+    assert_eq!(rt; parsed.used, 62);
+    for size in 0..FRAME.len() {
+        let parsed = in_two(rt.alloc(), &FRAME, size, MODE)?.ok_or("not whole")?;
+        assert_eq!(rt; parsed.used, 134, "{size} bytes first");
+        let Chunk::Frame(frame) = parsed.chunk else {
+            return Err("no frame")?;
+        };
+        let colours = [0x03_0201, 0x06_0504, 0x09_0807];
+        assert_eq!(rt; frame.pixels.as_slice(), colours.as_slice());
+    }
+    // the last pixel is bad
+    let mut bytes = FRAME;
+    bytes[109] = 0;
+    for size in 0..FRAME.len() {
+        let bad = in_two(rt.alloc(), &bytes, size, MODE).err();
+        assert_eq!(rt; bad, Some(BadField { at: 206 }), "{size} bytes first");
+    }
+    Ok(())
+}
+
 #[test]
 fn a_pixel_of_254(rt: HostRuntime) {
     let mut bytes = RECORD;
     bytes[78] = 254;
     let parsed = parse_chunk(rt.alloc(), &bytes[17..], 17, Some(TWO_POINTS));
     assert_eq!(rt; parsed.err(), Some(BadField { at: 75 }));
+}
+
+/// Writes the parts of that record, one after another.
+fn write_record<K: Sink>(k: &mut K, surface: &Surface) -> Result<(), Failed> {
+    write_magic(k)?;
+    write_opening(k, TWO_POINTS)?;
+    write_parts(k, RED_INFO, &[], &[RED_POINT], surface, None)?;
+    write_end(k)
+}
+
+#[test]
+fn a_record_is_written(rt: HostRuntime) -> Result<(), Fail> {
+    let alloc = rt.alloc();
+    let mut surface = Surface::new(alloc, 2, 1)?;
+    surface.set(0, 0, 0xff_0000);
+    // The call of the sink that fails, counted from 1, and how many bytes are written then: the record's parts
+    // are its magic, the opening, the frame's head, its rectangle, its pixel and the end.
+    let cases = [(1, 0), (2, 4), (3, 17), (4, 59), (5, 75), (6, 79), (7, 80)];
+    for (fails, written) in cases {
+        let fails = Numbers::from_vec([fails].to_vec(alloc)?);
+        let mut sink = MemSink::new(alloc, 4096, fails);
+        let done = write_record(&mut sink, &surface);
+        assert_eq!(rt; done.is_ok(), written == 80, "{written}");
+        assert_eq!(rt; sink.bytes(), &RECORD[..written], "{written}");
+    }
+    Ok(())
+}
+
+#[test]
+fn pixels_are_written_in_pages(rt: HostRuntime) -> Result<(), Fail> {
+    let alloc = rt.alloc();
+    let mut surface = Surface::new(alloc, 1100, 1)?;
+    surface.set(1099, 0, 0x01_0203);
+    let row = Rect {
+        left: 0,
+        top: 0,
+        right: 1100,
+        bottom: 1,
+    };
+    // The call that fails, and how many bytes are written then: the head and the rectangle have 58, the first
+    // page 1024 pixels, and the last one 76.
+    for (fails, written) in [(3, 58), (4, 4154), (5, 4458)] {
+        let fails = Numbers::from_vec([fails].to_vec(alloc)?);
+        let mut sink = MemSink::new(alloc, 4096, fails);
+        let done = write_parts(&mut sink, RED_INFO, &[], &[row], &surface, None);
+        assert_eq!(rt; done.is_ok(), written == 4458, "{written}");
+        assert_eq!(rt; sink.bytes().len(), written);
+        let last = sink.bytes().get(4450..);
+        assert!(rt; last.is_none() || last == Some([0, 0, 0, 255, 3, 2, 1, 255].as_slice()));
+    }
+    Ok(())
+}
+
+#[test]
+fn the_laws_can_be_called() {
+    tells_canonical();
+    bad_has_come();
+    reading_stays();
+    reads_what_is_written();
 }

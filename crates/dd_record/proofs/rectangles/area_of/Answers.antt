@@ -12,7 +12,8 @@ loop-rect-preserved c =
     let old = c.loop-rect.invariant in
     let size = c.add.ensures.size in
     let mode = c.args.mode in
-    let r : Rect = get_or c.args.rects.now c.loop-rect.rect-index (record { left = pos 0; top = pos 0; right = pos 0; bottom = pos 0 }) in
+    let point : Rect = record { left = pos 0; top = pos 0; right = pos 0; bottom = pos 0 } in
+    let r : Rect = get_or c.args.rects.now c.loop-rect.rect-index point in
     record {
       so_far =
           c.in_ok-add.ensures.ok ∙ ap (λ (g : Grid Bool). with_rect g r) old.so_far
@@ -23,5 +24,6 @@ loop-rect-preserved c =
 
 pub returns : goal.returns
 returns c =
-    let all : take c.loop-rect.rect-index c.args.rects.now ≡ c.args.rects.now = take_all _ c.args.rects.now c.loop-rect-test.false in
+    let all : take c.loop-rect.rect-index c.args.rects.now ≡ c.args.rects.now =
+    take_all _ c.args.rects.now c.loop-rect-test.false in
     c.loop-rect.invariant.so_far ∙ ap (covered_by c.args.mode.width c.args.mode.height) all
