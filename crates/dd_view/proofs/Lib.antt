@@ -1,0 +1,9 @@
+pub mod WholeRecords
+pub mod Agreeing
+pub mod Copying
+pub mod Drawing
+pub mod Examples
+pub mod Feeding
+pub mod Faults
+pub mod Asked
+pub mod Rows
