@@ -1,7 +1,7 @@
 -- Bytes written after others: what the sink took of both, and a front of both.
-use Rattle.std.proofs.Common.{◌≡◌, ℕ, ◌≤◌, List, [], ◌++◌, Option, Result, Ok, Err, sym, ap, ◌∙◌, subst, arith, append_assoc, append-nil, length-append}
+use Rattle.std.proofs.Common.{◌≡◌, ℕ, ◌≤◌, List, [], ◌++◌, Option, Result, Ok, Err, refl, sym, ap, ◌∙◌, subst, arith, append_assoc, append-nil, length-append}
 use Rattle.std.specs.Io.KnownBytes.{Appends}
-use Rattle.std.proofs.KnownBytes.{Appends-trans}
+use Rattle.std.proofs.KnownBytes.{Appends-nil, Appends-trans}
 use Rattle.std.proofs.lemmas.List.{take-append-le}
 use Rattle.dd_io.specs.Causes.{Rose}
 use Rattle.dd_io.specs.Transfer.{AppendsPrefix}
@@ -51,3 +51,17 @@ then_line (Ok x) held count a b c kept now line took none later writes = (
 then_line (Err fault) held count a b c kept now line took none later writes =
     stopped_in_all fault held count a b c kept line [] (kept ++ line) (ap (λ xs. kept ++ xs) (append-nil line)) later
     took writes
+
+-- a run stopped in the first bytes: it stopped in all of them
+pub stopped_in_first : (fault : RunFault) {K : Type 0} (held : K → Option (List ℕ)) (count : K → ℕ) (a b : K)
+    (xs ys : List ℕ) → Writes (side held count a b) xs (Err fault) → Writes (side held count a b) (xs ++ ys) (Err fault)
+stopped_in_first fault held count a b xs ys writes =
+    stopped_in_all fault held count a a b [] xs ys (xs ++ ys) refl (omega arith) (Appends-nil (held a)) writes
+
+-- bytes were written, and then others
+pub then_others : (r : Result (Unit {0}) RunFault) {K : Type 0} (held : K → Option (List ℕ)) (count : K → ℕ)
+    (a b c : K) (xs ys : List ℕ) → Took (side held count a b) xs → count a ≤ count b
+    → Writes (side held count b c) ys r → Writes (side held count a c) (xs ++ ys) r
+then_others (Ok x) held count a b c xs ys took later writes = Appends-trans (held a) (held b) (held c) xs ys took writes
+then_others (Err fault) held count a b c xs ys took later writes =
+    stopped_in_all fault held count a b c xs ys [] (xs ++ ys) (ap (λ zs. xs ++ zs) (append-nil ys)) later took writes

@@ -42,7 +42,7 @@ of_client_at n (s ∷ ss) zero t all k_in is = subst (IsOfClient n) (sym is) all
 of_client_at n (s ∷ ss) (suc k) t all k_in is = of_client_at n ss k t all.1 (omega arith) is
 
 -- the steps that are left begin with the one at the place
-left_at : (ss : List Step) (k : ℕ) (t : Step) → k < length ss → t ≡ get_or ss k t → drop k ss ≡ t ∷ drop (k + 1) ss
+pub left_at : (ss : List Step) (k : ℕ) (t : Step) → k < length ss → t ≡ get_or ss k t → drop k ss ≡ t ∷ drop (k + 1) ss
 left_at [] k t k_in is = absurd (omega arith)
 left_at (s ∷ ss) zero t k_in is = ap (λ (x : Step). x ∷ ss) (sym is)
 left_at (s ∷ ss) (suc k) t k_in is =

@@ -3,6 +3,11 @@ pub mod Faults
 pub mod Status
 pub mod Words
 pub mod Exchange
+pub mod Options
 pub mod Commands
 pub mod Outcome
 pub mod Keeping
+pub mod Viewing
+pub mod Recording
+pub mod Leaving
+pub mod RecordAndView

@@ -1,5 +1,5 @@
 -- What each status says of the bytes that came in and those that went out.
-use Rattle.std.specs.Prelude.{◌≡◌, ◌⊎◌, ℕ, ◌≤◌, ◌<◌, List, length, Option, Some, None, Result, Ok, Err}
+use Rattle.std.specs.Prelude.{◌≡◌, ◌⊎◌, true, ℕ, ◌≤◌, ◌<◌, List, length, Option, Some, None, Result, Ok, Err}
 use Rattle.dd_prog.specs.declared.fault.InputFault.{InputFault}
 use Rattle.dd_prog.specs.declared.fault.InputFault.TheVariants as causes
 use Rattle.dd_prog.specs.declared.fault.RunFault.{RunFault}
@@ -45,7 +45,7 @@ Refuses w x status =
 -- nothing was written to is as it was.
 abbrev pub Ends : {S K : Type 0} → Work → Exchange S K → Status → Type 0
 Ends w x Done = Ran w x (Took x.sink)
-Ends w x OutOfMemory = Idle x.sink ⊎ Ran w x (TookFront x.sink)
+Ends w x OutOfMemory = Idle x.sink ⊎ ((w.in_parts ≡ true) × Ran w x (TookFront x.sink))
 Ends w x BadWords = ⊥
 Ends w x TooLong = GaveMore x.source w.limit × Idle x.sink
 Ends w x BadScript = Refuses w x BadScript

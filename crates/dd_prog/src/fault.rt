@@ -3,10 +3,12 @@
 ghost use Rattle.std.specs.Prelude.{◌≡◌};
 ghost use Rattle.dd_prog.specs.declared.fault.InputFault.TheVariants as causes;
 ghost use Rattle.dd_prog.specs.declared.fault.RunFault.TheVariants as faults;
-ghost use Rattle.dd_prog.specs.Faults.{cause_of_read, cause_of_script};
+ghost use Rattle.dd_prog.specs.Faults.{cause_of_read, cause_of_script, cause_of_record};
 
 use dd_io::{Failed, OutOfMemory, ReadUpFault};
+use dd_record::RecordFault;
 use dd_script::ScriptFault;
+use std::alloc::AllocError;
 use thiserror::Error;
 
 /// Why the input of a command wasn't read.
@@ -43,6 +45,35 @@ impl From<ScriptFault> for InputFault {
             ScriptFault::NotScript => InputFault::BadInput,
             ScriptFault::OutOfMemory => InputFault::OutOfMemory,
         }
+    }
+}
+
+impl From<RecordFault> for InputFault {
+    ghost from_gives = { λ fault cause. cause ≡ cause_of_record fault };
+
+    fn from(fault: RecordFault) -> InputFault {
+        match fault {
+            RecordFault::BadMagic => InputFault::BadInput,
+            RecordFault::BadField { .. } => InputFault::BadInput,
+            RecordFault::Truncated { .. } => InputFault::BadInput,
+            RecordFault::OutOfMemory => InputFault::OutOfMemory,
+        }
+    }
+}
+
+impl From<Failed> for InputFault {
+    ghost from_gives = { λ _ cause. cause ≡ causes.Failed };
+
+    fn from(_e: Failed) -> InputFault {
+        InputFault::Failed
+    }
+}
+
+impl From<AllocError> for InputFault {
+    ghost from_gives = { λ _ cause. cause ≡ causes.OutOfMemory };
+
+    fn from(_e: AllocError) -> InputFault {
+        InputFault::OutOfMemory
     }
 }
 

@@ -5,16 +5,21 @@ mod arguments;
 mod command;
 mod fault;
 mod keeping;
+mod laws;
+mod options;
 mod program;
 mod reading;
+mod recording;
 mod replay;
 mod reporting;
 mod status;
+mod viewing;
 
 pub use arguments::{WordsFault, words};
-pub use command::{Command, plain};
+pub use command::{Command, MAX_FRAME, plain};
+pub use laws::{records_are_read, records_are_viewed, records_play_back, records_show_frames};
 pub use program::run;
-pub use reading::MAX_SCRIPT_BYTES;
+pub use reading::{MAX_RECORD_BYTES, MAX_SCRIPT_BYTES};
 pub use reporting::report;
 pub use status::Status;
 

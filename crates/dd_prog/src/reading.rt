@@ -16,6 +16,9 @@ use std::alloc::Global;
 /// The most bytes of a script.
 pub const MAX_SCRIPT_BYTES: u64 = 16_777_216;
 
+/// The most bytes of a record.
+pub const MAX_RECORD_BYTES: u64 = 1_073_741_824;
+
 /// Reads the input to its end, and the script that it is: it has fewer steps than the input bytes.
 pub(crate) fn read_script<S: Source>(alloc: Global, source: &mut S) -> Result<Script, InputFault>
     ensures reads { Reads (work Command.Replay) (side S.left S.faults source.old source.new) result }

@@ -89,7 +89,7 @@ fn run_script<K: Sink>(alloc: Global, script: Script, sink: &mut K) -> Result<()
 }
 
 /// How a run ended, as a status.
-fn status_of_run(ended: Result<(), RunFault>) -> Status
+pub(crate) fn status_of_run(ended: Result<(), RunFault>) -> Status
     ensures { result ≡ status_of_run ended }
 {
     match ended {
@@ -100,7 +100,7 @@ fn status_of_run(ended: Result<(), RunFault>) -> Status
 }
 
 /// Why no script was read, as a status.
-fn status_of_input(fault: InputFault) -> Status
+pub(crate) fn status_of_input(fault: InputFault) -> Status
     ensures { result ≡ status_of_input (work Command.Replay) fault }
 {
     match fault {

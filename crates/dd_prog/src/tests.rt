@@ -106,12 +106,77 @@ fn a_program_names_its_status(rt: HostRuntime) -> Result<(), Fail> {
     let alloc = rt.alloc();
     // The words, the calls of the names' sink that fail, how it ends, how many bytes of the script
     // are left, and the name.
-    let cases: [(&[&str], &[u64], Status, usize, &[u8]); 6] = [
+    let cases: [(&[&str], &[u64], Status, usize, &[u8]); 17] = [
         (&["replay"], &[], Status::Done, 0, b""),
         (&[], &[], Status::BadWords, 75, b"BadWords\n"),
         (&["play"], &[], Status::BadWords, 75, b"BadWords\n"),
         (&["replay", "x"], &[], Status::BadWords, 75, b"BadWords\n"),
         (&["replay "], &[], Status::BadWords, 75, b"BadWords\n"),
+        (&["record"], &[], Status::BadWords, 75, b"BadWords\n"),
+        (
+            &["record", "--client", "0"],
+            &[],
+            Status::BadWords,
+            75,
+            b"BadWords\n",
+        ),
+        (
+            &["record", "--client=17"],
+            &[],
+            Status::BadWords,
+            75,
+            b"BadWords\n",
+        ),
+        (
+            &["record", "--client", "016"],
+            &[],
+            Status::BadWords,
+            75,
+            b"BadWords\n",
+        ),
+        (
+            &["record", "--client", "=1"],
+            &[],
+            Status::BadWords,
+            75,
+            b"BadWords\n",
+        ),
+        (&["view"], &[], Status::BadWords, 75, b"BadWords\n"),
+        (
+            &["view", "--frame", "0"],
+            &[],
+            Status::BadWords,
+            75,
+            b"BadWords\n",
+        ),
+        (
+            &["view", "--frame", "+1"],
+            &[],
+            Status::BadWords,
+            75,
+            b"BadWords\n",
+        ),
+        (
+            &["view", "--frame=1048577"],
+            &[],
+            Status::BadWords,
+            75,
+            b"BadWords\n",
+        ),
+        (
+            &["view", "--frame", "1", "x"],
+            &[],
+            Status::BadWords,
+            75,
+            b"BadWords\n",
+        ),
+        (
+            &["view", "--frame=1048576"],
+            &[],
+            Status::BadRecord,
+            0,
+            b"BadRecord\n",
+        ),
         (&[], &[2], Status::BadWords, 75, b"BadWo"),
     ];
     for (items, name_fails, want, unread, name) in cases {
@@ -163,6 +228,38 @@ fn devices_in_pieces_and_their_faults(rt: HostRuntime) -> Result<(), Fail> {
         assert_eq!(rt; status, want, "{piece} bytes a call, {written} bytes");
         let front = &whole.as_bytes()[..written.min(whole.len())];
         assert_eq!(rt; sink.bytes(), front, "{piece} bytes a call");
+    }
+    Ok(())
+}
+
+/// A record of one frame, whose one pixel is red, on a screen of 2 by 1 points.
+const RECORD: [u8; 80] = [
+    0x44, 0x44, 0x52, 0x31, 1, 2, 0, 0, 0, 1, 0, 0, 0, 1, 0, 0, 0, 2, 2, 0, 0, 0, 0, 0, 0, 0, 0, 0,
+    0, 0, 0, 0, 0, 0, 1, 0, 0, 0, 0, 0, 0, 0, 0, 0, 0, 0, 0, 0, 0, 16, 0, 0, 0, 0, 0, 0, 0, 0, 1,
+    0, 0, 0, 0, 0, 0, 0, 0, 1, 0, 0, 0, 1, 0, 0, 0, 0, 0, 255, 255, 0,
+];
+
+#[test]
+fn a_record_is_viewed(rt: HostRuntime) -> Result<(), Fail> {
+    let alloc = rt.alloc();
+    let picture: &[u8] = b"P3\n2 1\n255\n255 0 0\n0 0 0\n";
+    // How many bytes of the record come, the frame, the calls of the source that fail, how it ends,
+    // and what is written.
+    let cases: [(usize, &str, &[u64], Status, &[u8]); 5] = [
+        (80, "1", &[], Status::Done, picture),
+        (80, "2", &[], Status::BadRecord, b""),
+        (77, "1", &[], Status::BadRecord, b""),
+        (3, "1", &[], Status::BadRecord, b""),
+        (80, "1", &[9], Status::ReadFault, b""),
+    ];
+    for (count, frame, fails, want, written) in cases {
+        let words = words_of(alloc, &["view", "--frame", frame])?;
+        let bytes = RECORD[..count.min(80)].to_vec(alloc)?;
+        let mut source = MemSource::new(Bytes::from_vec(bytes), 7, numbers(alloc, fails)?);
+        let mut sink = MemSink::new(alloc, 7, numbers(alloc, &[])?);
+        let status = plain(alloc, &words, &mut source, &mut sink);
+        assert_eq!(rt; status, want, "{count} bytes, frame {frame}");
+        assert_eq!(rt; sink.bytes(), written, "{count} bytes, frame {frame}");
     }
     Ok(())
 }

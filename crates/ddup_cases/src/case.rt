@@ -3,6 +3,7 @@
 use crate::judging::{Verdict, judge};
 use dd_io::{Bytes, MemSink, MemSource, Numbers};
 use dd_prog::plain;
+use hex::FromHexError;
 use std::alloc::{AllocError, Global};
 use std::mem;
 
@@ -20,7 +21,8 @@ enum Part {
 /// A case, as far as its lines have come.
 ///
 /// Its lines are, in this order: `case NAME`; `word WORD` for each word of the command; `status
-/// NAME`; then `spaces N`, or `input` and the input's lines; then `output` and the output's lines.
+/// NAME`; `writes DIGITS`, where the output is told by hexadecimal digits; then `spaces N`, `bytes
+/// DIGITS`, or `input` and the input's lines; then `output` and the output's lines.
 #[derive(Debug, Drop)]
 pub struct Case {
     name: String,
@@ -45,6 +47,15 @@ fn line_of(alloc: Global, name: &str) -> Result<String, AllocError> {
         Ok(String::new(alloc))
     } else {
         format!(in alloc; "{name}\n")
+    }
+}
+
+/// The bytes of hexadecimal digits; none where they are something else.
+fn bytes_of(alloc: Global, digits: &str) -> Result<Vec<u8>, AllocError> {
+    match hex::decode(alloc, digits) {
+        Ok(bytes) => Ok(bytes),
+        Err(FromHexError::OutOfMemory) => Err(AllocError),
+        Err(_) => Ok(Vec::new(alloc)),
     }
 }
 
@@ -86,6 +97,8 @@ impl Case {
             "word" => self.words.push(String::from_str(alloc, rest)?)?,
             "status" => self.line = line_of(alloc, rest)?,
             "spaces" => self.input = vec![in alloc; b' '; rest.parse().unwrap_or(0)]?,
+            "bytes" => self.input = bytes_of(alloc, rest)?,
+            "writes" => self.output = bytes_of(alloc, rest)?,
             _ => {}
         }
         Ok(())

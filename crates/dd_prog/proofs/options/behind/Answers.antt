@@ -1,0 +1,6 @@
+-- What stands behind a front.
+use Rattle.dd_prog.proofs.Numerals.{stripped}
+use Rattle.dd_prog.proofs.options.behind.Goals as goal
+
+pub returns : goal.returns
+returns c = stripped c.args.front.now c.args.word.now c.strip_prefix.result c.strip_prefix.ensures.cases

@@ -1,0 +1,34 @@
+-- An option of a command and its number, in the bytes of the words.
+use Rattle.std.specs.Prelude.{ℕ, nat_le, Bool, false, ◌&&◌, if◌then◌else◌, List, [], ◌∷◌, length, take, drop, bytes_eq, codes, Option, Some, None, option_and_then}
+use Rattle.std.specs.Str.{all_ascii_digits}
+use Rattle.std.specs.Str.Parse.{digits_value}
+
+-- what stands in a word behind a front, where it begins so
+abbrev pub behind : List ℕ → List ℕ → Option (List ℕ)
+behind front w = if bytes_eq front (take (length front) w) then Some (drop (length front) w) else None
+
+-- The value that the words give to an option: what stands behind its name and '=' in one word; or the word behind its
+-- name.
+abbrev pub value_given : List ℕ → List (List ℕ) → Option (List ℕ)
+value_given name [] = None
+value_given name (w ∷ []) = option_and_then (behind (codes "=")) (behind name w)
+value_given name (w ∷ v ∷ []) = if bytes_eq w name then Some v else None
+value_given name (w ∷ v ∷ u ∷ ws) = None
+
+-- a digit from 1 to 9 stands first
+abbrev pub begins_from_1 : List ℕ → Bool
+begins_from_1 [] = false
+begins_from_1 (b ∷ bs) = nat_le 49 b && nat_le b 57
+
+-- the number that a word writes: a digit from 1 to 9, then digits
+abbrev pub numeral : List ℕ → Option ℕ
+numeral w = if begins_from_1 w && all_ascii_digits w then Some (digits_value 10 w) else None
+
+-- a number that is at most `most`
+abbrev pub up_to : ℕ → Option ℕ → Option ℕ
+up_to most None = None
+up_to most (Some n) = if nat_le n most then Some n else None
+
+-- the number, from 1 to `most`, that the words give to an option
+abbrev pub number_given : List ℕ → ℕ → List (List ℕ) → Option ℕ
+number_given name most ws = up_to most (option_and_then numeral (value_given name ws))
