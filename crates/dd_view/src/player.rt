@@ -12,7 +12,7 @@ use crate::played::Played;
 use crate::stage::Stage;
 use dd_grid::Surface;
 use dd_modes::Mode;
-use dd_record::{Chunk, Parsed, RecordFault, parse_chunk};
+use dd_record::{Chunk, Parsed, RecordFault, parse_chunk_from};
 use std::alloc::{AllocError, Global};
 use std::marker::Model;
 use std::mem::replace;
@@ -29,6 +29,8 @@ pub struct Player {
     stage: Stage,
     at: u64,
     pending: Pending,
+    /// So many of the pending bytes were found good, as far as they go.
+    tested: u64,
     played: Played,
 }
 
@@ -78,6 +80,7 @@ impl Player {
     ghost use Rattle.dd_view.specs.Player.{Reader, new_reader, stopped, begun_next, behind_chunk, chunk_next, open_mode, ended_next, next, steps, read_on, fed, bytes_come, feed_answer, finish_answer, Feeds};
 
     /// A player of no bytes so far, which is asked for the picture after frame number `frame`, from 1.
+    #[tactic(auto, using(dd_record::proofs::Before::nothing_yet))]
     pub fn new(alloc: Global, frame: u32) -> Result<Player, AllocError>
         requires { 1 ≤ frame }
         ensures { IfOk result (λ p. p ≡ new_reader frame) }
@@ -88,15 +91,18 @@ impl Player {
             stage: Stage::Begun,
             at: 0,
             pending: Pending::new(alloc),
+            tested: 0,
             played: Played::nothing(),
         })
     }
 
     /// Keeps a fault, and forgets the bytes from there on.
+    #[tactic(auto, using(dd_record::proofs::Before::nothing_yet))]
     fn stop(&mut self, fault: RecordFault)
         ensures value { self.new ≡ stopped fault self.old }
         ensures few { bytes_come self.new ≤ bytes_come self.old }
     {
+        self.tested = 0;
         self.pending.clear();
         self.stage = Stage::Failed(fault);
     }
@@ -115,6 +121,7 @@ impl Player {
         if self.pending.len() < MAGIC.len() {
             return false;
         }
+        self.tested = 0;
         self.pending.skip(MAGIC.len());
         self.at += MAGIC.len() as u64;
         self.stage = Stage::Going;
@@ -122,6 +129,7 @@ impl Player {
     }
 
     /// Plays a chunk at the front of the bytes that came.
+    #[tactic(auto, using(dd_record::proofs::Before::nothing_yet))]
     fn take(&mut self, parsed: Parsed) -> Result<(), AllocError>
         requires { Fits (open_mode self.old.played) (length self.old.rest) parsed }
         ensures ok { OnOk result (self.new ≡ behind_chunk self.old parsed) }
@@ -129,6 +137,7 @@ impl Player {
     {
         let Parsed { chunk, used } = parsed;
         let stage = stage_behind(&chunk);
+        self.tested = 0;
         let played = replace(&mut self.played, Played::nothing());
         self.played = played.after(self.alloc, self.asked, chunk)?;
         self.pending.skip(used as usize);
@@ -138,6 +147,7 @@ impl Player {
     }
 
     /// Takes a chunk, once it has come whole; says whether anything changed.
+    #[tactic(auto, using(dd_record::proofs::Before::none_is_good))]
     fn read_chunk(&mut self) -> Result<bool, AllocError>
         ensures next { OnOk result
             (self.new ≡ chunk_next self.old (chunk_of (open_mode self.old.played) self.old.rest)) }
@@ -145,8 +155,12 @@ impl Player {
         ensures few { bytes_come self.new ≤ bytes_come self.old }
     {
         let mode = self.played.mode();
-        match parse_chunk(self.alloc, self.pending.as_slice(), self.at, mode) {
-            Ok(None) => Ok(false),
+        let bytes = self.pending.as_slice();
+        match parse_chunk_from(self.alloc, bytes, self.at, mode, self.tested) {
+            Ok(None) => {
+                self.tested = self.pending.len() as u64;
+                Ok(false)
+            }
             Ok(Some(parsed)) => {
                 self.take(parsed)?;
                 Ok(true)
