@@ -1,6 +1,6 @@
 //! A whole record of 80 bytes, cut into two pieces at each place; its faults; and its picture as text.
 
-ghost use Rattle.std.specs.Prelude.{◌≡◌, ◌≤◌, ◌^◌, ◌+◌, length, IfOk};
+ghost use Rattle.std.specs.Prelude.{◌≡◌, ◌≤◌, ◌<◌, ◌^◌, ◌+◌, length, IfOk};
 ghost use Rattle.dd_view.specs.Player.{bytes_come};
 
 use crate::{Player, ppm};
@@ -67,6 +67,37 @@ fn one_byte_is_changed(rt: HostRuntime) {
             Err(*fault),
             "{place}, cut"
         );
+    }
+}
+
+/// The bytes up to a place, and those from it on.
+fn halves(bytes: &[u8; 80], place: usize) -> (&[u8], &[u8])
+    requires { place < 80 }
+    ensures first { length result.0.now ≤ 80 }
+    ensures second { length result.1.now ≤ 80 }
+{
+    bytes.split_at(place)
+}
+
+/// The record with one byte changed has one answer, whole and in two pieces that are cut there, and it
+/// is never want of memory.
+fn change(rt: &impl Abort, alloc: Global, place: usize, by: u8)
+    requires { place < 80 }
+{
+    let mut bytes = RECORD;
+    bytes[place] = bytes[place].wrapping_add(by);
+    let whole = ended(alloc, &bytes, &[]);
+    let (first, second) = halves(&bytes, place);
+    assert_eq!(rt; whole, ended(alloc, first, second), "{place}, {by}");
+    assert!(rt; !matches!(whole, Err(RecordFault::OutOfMemory)));
+}
+
+#[test]
+fn each_byte_is_changed_to_each_other(rt: HostRuntime) {
+    for place in 0..80 {
+        for by in 1..=255 {
+            change(&rt, rt.alloc(), place, by);
+        }
     }
 }
 
