@@ -1,5 +1,5 @@
 -- The desk after one entry more, part by part, and what its parts tell of the entries.
-use Rattle.std.proofs.Common.{◌≡◌, ℕ, ◌+◌, ◌-◌, ◌<◌, ◌||◌, true, false, List, [], ◌∷◌, ◌++◌, length, drop, get_or, set, nat_lt, eqb, sym, ap, ◌∙◌, refl, arith, if◌then◌else◌, ◌==◌}
+use Rattle.std.proofs.Common.{◌≡◌, ℕ, ◌+◌, ◌-◌, ◌<◌, ◌||◌, Bool, true, false, List, [], ◌∷◌, ◌++◌, length, drop, get_or, set, nat_lt, eqb, sym, ap, ◌∙◌, refl, arith, if◌then◌else◌, ◌==◌}
 use Rattle.std.specs.Prelude.{slice_index_or, slice_get, None}
 use Rattle.std.proofs.lemmas.Bool.{cases_eq, eq-eqb, ne_eqb, cond-true, cond-false}
 use Rattle.std.proofs.lemmas.List.{get_or-set_same, get_or-set_other, get_or-replicate, length-set, length-replicate, length_push}
@@ -8,6 +8,7 @@ use Rattle.std.proofs.Math.Logic.{⊎_elim}
 use Rattle.dd_modes.specs.declared.modes.Mode.{Mode}
 use Rattle.dd_log.specs.declared.desk.Desk.{Desk}
 use Rattle.dd_log.specs.declared.events.Entry.{Entry}
+use Rattle.dd_log.specs.declared.events.Event.{Event}
 use Rattle.dd_log.specs.declared.events.TheConstants.{MAX_ACTORS}
 use Rattle.dd_log.specs.Events.{begins_picture, cuts_off, is_present, is_pointing, has_shape, is_end, any_cuts_off, any_presents, any_points, any_ends, shape_at, last_present, last_pointed, last_shape}
 use Rattle.dd_log.specs.Desk.{first_desk, desk_after, desk_of, mode_after, secure_after, connected_after, slots_after, place_after}
@@ -64,81 +65,37 @@ len_tells ms es =
     (λ (xs : List Entry) (x : Entry) (is : (desk_of ms xs).len ≡ length xs).
     len-push ms xs x ∙ ap (λ n. n + 1) is ∙ sym (length_push xs x)) es
 
--- the places
-start-push : (ms : List Mode) (es : List Entry) (e : Entry)
-    → (desk_of ms (es ++ e ∷ [])).picture_start
-    ≡ place_after (begins_picture e.event) (desk_of ms es).len (desk_of ms es).picture_start
-unfolding desk_after
-start-push ms es e = ap (λ (d : Desk). d.picture_start) (desk-push ms es e)
-
-cut_off-push : (ms : List Mode) (es : List Entry) (e : Entry)
-    → (desk_of ms (es ++ e ∷ [])).cut_off
-    ≡ place_after (cuts_off e.event) (desk_of ms es).len (desk_of ms es).cut_off
-unfolding desk_after
-cut_off-push ms es e = ap (λ (d : Desk). d.cut_off) (desk-push ms es e)
-
-presented-push : (ms : List Mode) (es : List Entry) (e : Entry)
-    → (desk_of ms (es ++ e ∷ [])).presented
-    ≡ place_after (is_present e.event) (desk_of ms es).len (desk_of ms es).presented
-unfolding desk_after
-presented-push ms es e = ap (λ (d : Desk). d.presented) (desk-push ms es e)
-
-pointed-push : (ms : List Mode) (es : List Entry) (e : Entry)
-    → (desk_of ms (es ++ e ∷ [])).pointed
-    ≡ place_after (is_pointing e.event) (desk_of ms es).len (desk_of ms es).pointed
-unfolding desk_after
-pointed-push ms es e = ap (λ (d : Desk). d.pointed) (desk-push ms es e)
-
-shaped-push : (ms : List Mode) (es : List Entry) (e : Entry)
-    → (desk_of ms (es ++ e ∷ [])).shaped
-    ≡ place_after (has_shape e.event) (desk_of ms es).len (desk_of ms es).shaped
-unfolding desk_after
-shaped-push ms es e = ap (λ (d : Desk). d.shaped) (desk-push ms es e)
+-- a place after the last entry of a kind goes on as such
+marks_by : (ms : List Mode) (is : Event → Bool) (field : Desk → ℕ) → field (first_desk ms) ≡ 0
+    → ((d : Desk) (e : Entry) → field (desk_after ms d e) ≡ place_after (is e.event) d.len (field d))
+    → Marks (λ (e : Entry). is e.event) (λ es. field (desk_of ms es))
+unfolding desk_of
+marks_by ms is field none more =
+    record {
+      none = none;
+      more = λ es e. ap field (desk-push ms es e) ∙ more (desk_of ms es) e
+          ∙ ap (λ n. place_after (is e.event) n (field (desk_of ms es))) (len_tells ms es);
+    }
 
 pub start_marks : (ms : List Mode) → Marks (λ (e : Entry). begins_picture e.event) (λ es. (desk_of ms es).picture_start)
-unfolding desk_of first_desk
-start_marks ms =
-    record {
-      none = refl;
-      more = λ es e. start-push ms es e
-          ∙ ap (λ n. place_after (begins_picture e.event) n (desk_of ms es).picture_start) (len_tells ms es);
-    }
+unfolding first_desk desk_after
+start_marks ms = marks_by ms begins_picture (λ (d : Desk). d.picture_start) refl (λ d e. refl)
 
 cut_off_marks : (ms : List Mode) → Marks (λ (e : Entry). cuts_off e.event) (λ es. (desk_of ms es).cut_off)
-unfolding desk_of first_desk
-cut_off_marks ms =
-    record {
-      none = refl;
-      more = λ es e. cut_off-push ms es e
-          ∙ ap (λ n. place_after (cuts_off e.event) n (desk_of ms es).cut_off) (len_tells ms es);
-    }
+unfolding first_desk desk_after
+cut_off_marks ms = marks_by ms cuts_off (λ (d : Desk). d.cut_off) refl (λ d e. refl)
 
 presented_marks : (ms : List Mode) → Marks (λ (e : Entry). is_present e.event) (λ es. (desk_of ms es).presented)
-unfolding desk_of first_desk
-presented_marks ms =
-    record {
-      none = refl;
-      more = λ es e. presented-push ms es e
-          ∙ ap (λ n. place_after (is_present e.event) n (desk_of ms es).presented) (len_tells ms es);
-    }
+unfolding first_desk desk_after
+presented_marks ms = marks_by ms is_present (λ (d : Desk). d.presented) refl (λ d e. refl)
 
 pointed_marks : (ms : List Mode) → Marks (λ (e : Entry). is_pointing e.event) (λ es. (desk_of ms es).pointed)
-unfolding desk_of first_desk
-pointed_marks ms =
-    record {
-      none = refl;
-      more = λ es e. pointed-push ms es e
-          ∙ ap (λ n. place_after (is_pointing e.event) n (desk_of ms es).pointed) (len_tells ms es);
-    }
+unfolding first_desk desk_after
+pointed_marks ms = marks_by ms is_pointing (λ (d : Desk). d.pointed) refl (λ d e. refl)
 
 pub shaped_marks : (ms : List Mode) → Marks (λ (e : Entry). has_shape e.event) (λ es. (desk_of ms es).shaped)
-unfolding desk_of first_desk
-shaped_marks ms =
-    record {
-      none = refl;
-      more = λ es e. shaped-push ms es e
-          ∙ ap (λ n. place_after (has_shape e.event) n (desk_of ms es).shaped) (len_tells ms es);
-    }
+unfolding first_desk desk_after
+shaped_marks ms = marks_by ms has_shape (λ (d : Desk). d.shaped) refl (λ d e. refl)
 
 pub start_tells : (ms : List Mode) (es : List Entry)
     → Tells (λ (e : Entry). begins_picture e.event) (λ xs. (desk_of ms xs).picture_start) es

@@ -1,10 +1,10 @@
 -- Legal lists: what a test of one entry more says, and what such an entry makes of the list.
-use Rattle.std.proofs.Common.{◌≡◌, ℕ, ◌+◌, ◌<◌, ◌≤◌, Bool, cond, true, false, ◌&&◌, ◌||◌, not, List, [], ◌∷◌, ◌++◌, length, take, drop, Option, Some, None, nat_lt, eqb, sym, ap, subst, ◌∙◌, refl, append_assoc, append-nil, arith, if◌then◌else◌, ◌==◌}
+use Rattle.std.proofs.Common.{◌≡◌, ℕ, ◌+◌, ◌<◌, ◌≤◌, Bool, cond, true, false, ◌&&◌, ◌||◌, not, List, [], ◌∷◌, ◌++◌, length, take, drop, get_or, Option, Some, None, nat_lt, eqb, sym, ap, subst, ◌∙◌, refl, append_assoc, append-nil, arith, if◌then◌else◌, ◌==◌}
 use Rattle.std.specs.Prelude.{is_none, slice_index_or}
 use Rattle.std.specs.List.{list_all, position_or_len}
 use Rattle.std.specs.Prelude.{option_map}
 use Rattle.std.proofs.lemmas.Bool.{and_parts, and_from, cases_lt, false≢true, ltb-true, lt-ltb, leb-false, ltb-false, cond-false, eq-eqb, ne_eqb}
-use Rattle.std.proofs.lemmas.List.{take-append-drop, length_push}
+use Rattle.std.proofs.lemmas.List.{take-append-drop, take_more, length_push}
 use Rattle.std.proofs.lemmas.List.Folds.{position_or_len_push}
 use Rattle.std.proofs.lemmas.List.Sums.{fold_push}
 use Rattle.std.proofs.Math.Bool.{and-true, and-false}
@@ -26,7 +26,7 @@ use Rattle.dd_log.specs.declared.events.Spec.{Spec}
 use Rattle.dd_log.specs.declared.events.TheConstants.{MAX_ACTORS}
 use Rattle.dd_log.specs.Events.{operations_of, is_end}
 use Rattle.dd_log.specs.Desk.{desk_of, first_desk, finds_slot}
-use Rattle.dd_log.specs.History.{History, with_entry, desk, desk_mode, last_step, is_full, before_end, bad_rect, bad_draw, bad_event, present_fits, event_fits, refusal, may_add, legal_after, legal, end_of, BeginningIsLegal, LegalByEntries, LegalHasRoom, EndIsLast, BeforeEndCounts}
+use Rattle.dd_log.specs.History.{History, with_entry, first_entries, desk, desk_mode, last_step, is_full, before_end, bad_rect, bad_draw, bad_event, present_fits, event_fits, refusal, may_add, legal_after, legal, end_of, BeginningIsLegal, LegalByEntries, LegalHasRoom, EndIsLast, BeforeEndCounts}
 use Rattle.dd_log.proofs.Snoc.{by_snoc}
 use Rattle.dd_log.proofs.Desks.{ended-push, ended_tells, step_tells, len_of_steps}
 
@@ -129,6 +129,16 @@ legal_beginning h n t =
     let whole = ap (legal_after h.spec []) (take-append-drop n h.entries) in
     (and_parts (legal_after h.spec [] (take n h.entries)) _
     (sym (legal_after-append h.spec [] (take n h.entries) (drop n h.entries)) ∙ whole ∙ t)).0
+
+-- the entry at a place was one that the list before it may have
+pub may_follow : (h : History) (n : ℕ) (e : Entry) → legal h ≡ true → n < length h.entries → e ≡ get_or h.entries n e
+    → may_add (first_entries n h) e ≡ true
+may_follow h n e t within is =
+    let before : List Entry = take n h.entries in
+    let whole : take (n + 1) h.entries ≡ before ++ e ∷ [] =
+    take_more h.entries n e within ∙ ap (λ x. before ++ x ∷ []) (sym is) in
+    (legal_before (first_entries n h) e
+    (ap (λ es. legal (record { spec = h.spec; entries = es })) (sym whole) ∙ legal_beginning h (n + 1) t)).1
 
 -- what goes on from each legal list to a legal list of one entry more holds of all
 pub record Step (h : History) (e : Entry) : Type 0 where

@@ -38,6 +38,15 @@ pub struct FrameInfo {
     pub shape_size: u32,
 }
 
+/// What an actor of an output does.
+#[derive(Clone, Copy, Debug, PartialEq, Eq)]
+pub enum Role {
+    /// It draws.
+    Drawer,
+    /// It duplicates, for an application.
+    Client { app: u32 },
+}
+
 /// Why a drawing wasn't appended to the list.
 #[derive(Clone, Copy, Debug, PartialEq, Eq, Error)]
 pub enum LogRefusal {

@@ -11,7 +11,9 @@ mod log;
 #[cfg(test)]
 mod tests;
 
-pub use answers::{Answer, CloseRefusal, DupRefusal, FrameInfo, LogRefusal, OpenRefusal, Pointer};
+pub use answers::{
+    Answer, CloseRefusal, DupRefusal, FrameInfo, LogRefusal, OpenRefusal, Pointer, Role,
+};
 pub use desk::{Desk, MAX_DUPLICATORS};
 pub use events::{Draw, Entry, Event, MAX_ACTORS, MAX_CAPACITY, MAX_PRIVILEGED, Spec};
 pub use laws::{

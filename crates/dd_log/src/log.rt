@@ -5,7 +5,9 @@ ghost use Rattle.std.specs.Prelude.{◌==◌};
 ghost use Rattle.std.specs.List.{list_any};
 ghost use Rattle.dd_geom.specs.Rect.{IsSize};
 ghost use Rattle.dd_log.specs.declared.events.TheConstants.{MAX_ACTORS, MAX_CAPACITY};
+ghost use Rattle.dd_log.specs.Desk.{desk_of};
 ghost use Rattle.dd_log.specs.Events.{shape_at};
+ghost use Rattle.dd_log.specs.History.{legal};
 
 use crate::answers::{LogRefusal, Pointer};
 use crate::causes::check_event;
@@ -65,9 +67,24 @@ fn shape_of(entry: Option<&Entry>) -> Option<&Shape>
     }
 }
 
+/// The desk that the entries of a legal list make.
+fn desk_after(spec: &Spec, entries: &[Entry]) -> Desk
+    requires legal { IsTrue (legal (record { spec = spec.now; entries = entries.now })) }
+    requires some { 1 ≤ spec.now.capacity }
+    requires few { spec.now.capacity ≤ MAX_CAPACITY }
+    ensures value { result ≡ desk_of spec.now.modes entries.now }
+    ensures size { IsSize result.mode.width result.mode.height }
+{
+    let mut desk = Desk::first(&spec.modes);
+    for entry in entries {
+        desk.follow(&spec.modes, entry);
+    }
+    desk
+}
+
 impl Log {
     ghost use Rattle.dd_log.specs.Desk.{finds_slot, is_app};
-    ghost use Rattle.dd_log.specs.History.{begun, with_entry, ended_by, desk, desk_mode, legal, may_add, refusal, verdict, is_end, is_full, last_step, entries_fit, any_begins, any_cuts_off, any_presents, any_points, any_ends, last_present, last_pointed, last_shape};
+    ghost use Rattle.dd_log.specs.History.{begun, first_entries, with_entry, ended_by, desk, desk_mode, may_add, refusal, verdict, is_end, is_full, last_step, entries_fit, any_begins, any_cuts_off, any_presents, any_points, any_ends, last_present, last_pointed, last_shape};
 
     /// An empty list, with memory for all entries that it may ever have.
     pub fn start(alloc: Global, spec: Spec) -> Result<Log, AllocError>
@@ -107,8 +124,8 @@ impl Log {
         self.entries.push_reserved(entry);
     }
 
-    /// The first cause why an event isn't appended.
-    fn allows(&self, event: &Event) -> Result<(), LogRefusal>
+    /// The first cause why an event wouldn't be appended. It takes no memory.
+    pub fn allows(&self, event: &Event) -> Result<(), LogRefusal>
         ensures { result ≡ verdict (refusal self.now event.now) }
     {
         if self.desk.ended {
@@ -150,6 +167,14 @@ impl Log {
                 event: Event::End,
             });
         }
+    }
+
+    /// Keeps the first `place` entries, or all where there are no more. It takes no memory.
+    pub fn cut(&mut self, place: u64)
+        ensures { self.new ≡ first_entries place self.old }
+    {
+        self.entries.truncate(place as usize);
+        self.desk = desk_after(&self.spec, self.entries.as_slice());
     }
 
     /// The number of entries.

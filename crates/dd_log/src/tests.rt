@@ -273,6 +273,21 @@ fn entries_are_read_and_copied(rt: HostRuntime) -> Result<(), Fail> {
 }
 
 #[test]
+fn a_beginning_is_kept(rt: HostRuntime) -> Result<(), Fail> {
+    for (place, len, secure, mode) in [
+        (9, 4, true, SMALL),
+        (2, 2, true, MODE),
+        (1, 1, false, MODE),
+    ] {
+        let mut log = drawn(rt.alloc())?;
+        log.cut(place);
+        assert_eq!(rt; log.len(), len, "{place}");
+        assert_eq!(rt; (log.secure(), log.mode()), (secure, mode), "{place}");
+    }
+    Ok(())
+}
+
+#[test]
 fn a_present_lends_its_operations(rt: HostRuntime) -> Result<(), Fail> {
     let draw = Draw::Present(fills(rt.alloc(), &[INSIDE, OUTSIDE])?);
     let present = Event::Draw(draw.copy()?);
