@@ -15,7 +15,6 @@ pub mod Gathered
 pub mod HeadBack
 pub mod HeadMeta
 pub mod ListsBack
-pub mod Longer
 pub mod Needs
 pub mod OneByOne
 pub mod ReadBack

@@ -53,8 +53,9 @@ pub page_turned : (c : Change) (kept now ys : List ℕ) → Writes c kept (Ok tt
 page_turned c kept now ys writes is = (kept, writes.0, ap (λ xs. kept ++ xs) is, writes.1)
 
 -- bytes were added to none, and then what was kept was written
-pub all_written : (r : Result (Unit {0}) Failed) (a b c : Option (List ℕ)) (m n p : ℕ) (none now bs : List ℕ) → none ≡ []
-    → Adds (between a b m n) none now bs (Ok tt) → Writes (between b c n p) now r → Writes (between a c m p) bs r
+pub all_written : (r : Result (Unit {0}) Failed) (a b c : Option (List ℕ)) (m n p : ℕ) (none now bs : List ℕ)
+    → none ≡ [] → Adds (between a b m n) none now bs (Ok tt) → Writes (between b c n p) now r
+    → Writes (between a c m p) bs r
 all_written r a b c m n p none now bs is adds writes =
     subst (λ xs. Writes (between a c m p) xs r) (adds.2 ∙ ap (λ xs. xs ++ bs) is)
     (then_others r a b c m n p adds.0 now (adds.1, adds.3) writes)
@@ -109,7 +110,8 @@ so_failed a b c m n p kept now then rest left next all e so is adds =
 pub so_all : (a b : Option (List ℕ)) (m n : ℕ) (kept now rest all : List ℕ) → SoFar (between a b m n) kept now rest all
     → rest ≡ [] → Adds (between a b m n) kept now all (Ok tt)
 so_all a b m n kept now rest all so none =
-    (so.wrote, so.took, ap (λ xs. so.wrote ++ xs) (sym (append-nil now) ∙ ap (λ xs. now ++ xs) (sym none)) ∙ so.whole, so.later)
+    let none_more = sym (append-nil now) ∙ ap (λ xs. now ++ xs) (sym none) in
+    (so.wrote, so.took, ap (λ xs. so.wrote ++ xs) none_more ∙ so.whole, so.later)
 
 -- the bytes of the places that are left begin with those of the first of them
 pub next_place : (piece : ℕ → List ℕ) (from to : ℕ) → from < to

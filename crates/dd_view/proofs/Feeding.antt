@@ -9,11 +9,11 @@ use Rattle.dd_record.specs.declared.chunk.Chunk.TheVariants.{Opening, Frame, End
 use Rattle.dd_record.specs.declared.chunk.Parsed.{Parsed}
 use Rattle.dd_record.specs.declared.fault.RecordFault.{RecordFault}
 use Rattle.dd_record.specs.declared.fault.RecordFault.TheVariants.{BadMagic, BadField, Truncated, OutOfMemory}
-use Rattle.dd_record.specs.Reading.{Reading, Good, Bad, Short, come}
+use Rattle.dd_record.specs.Reading.{Reading, Good, Bad, Short, Stays, come}
 use Rattle.dd_record.specs.Grammar.{chunk_of}
 use Rattle.dd_record.specs.Fitting.{least_size}
 use Rattle.dd_record.specs.Writing.{magic}
-use Rattle.dd_record.proofs.Longer.{Stays, chunk_stays}
+use Rattle.dd_record.proofs.Staying.{reading_stays}
 use Rattle.dd_record.proofs.Fits.{chunk_sized}
 use Rattle.dd_view.specs.declared.stage.Stage.{Stage}
 use Rattle.dd_view.specs.declared.stage.Stage.TheVariants.{Begun, Going, Ended, Failed}
@@ -79,15 +79,16 @@ module _ (asked at : ℕ) (played : Played) where
 
   module _ (rest piece : List ℕ) where
     -- what a begun reader is after a step, where bytes agree with the magic and are enough
-    begun_is : (bytes : List ℕ) (same long : Bool) → agree bytes magic ≡ same → nat_le (length magic) (length bytes) ≡ long
-        → begun_next (the Begun bytes)
+    begun_is : (bytes : List ℕ) (same long : Bool) → agree bytes magic ≡ same
+        → nat_le (length magic) (length bytes) ≡ long → begun_next (the Begun bytes)
         ≡ cond same (cond long (behind_magic (the Begun bytes)) (the Begun bytes)) (stopped BadMagic (the Begun bytes))
     unfolding begun_next
     begun_is bytes same long e l =
         ap (λ b. cond b
         (cond (nat_le (length magic) (length bytes)) (behind_magic (the Begun bytes)) (the Begun bytes))
         (stopped BadMagic (the Begun bytes))) e
-        ∙ ap (λ b. cond same (cond b (behind_magic (the Begun bytes)) (the Begun bytes)) (stopped BadMagic (the Begun bytes))) l
+        ∙ ap (λ b. cond same (cond b (behind_magic (the Begun bytes)) (the Begun bytes))
+        (stopped BadMagic (the Begun bytes))) l
 
     begun_onward : Onward (the Begun rest) piece
     unfolding magic
@@ -128,7 +129,7 @@ module _ (asked at : ℕ) (played : Played) where
   onward_at : (stage : Stage) (rest piece : List ℕ) → Onward (the stage rest) piece
   onward_at Begun rest piece = begun_onward rest piece
   onward_at Going rest piece =
-      going_onward rest piece (chunk_of (open_mode played) rest) refl (chunk_stays rest piece (open_mode played))
+      going_onward rest piece (chunk_of (open_mode played) rest) refl (reading_stays (open_mode played) rest piece)
   onward_at Ended [] piece = stands refl
   onward_at Ended (b ∷ rest) piece = fails (stopped (BadField at) (the Ended (b ∷ rest))) refl (omega arith) refl
   onward_at (Failed fault) [] piece = stands refl

@@ -70,7 +70,8 @@ go_on c cs asked at zero p going e long later =
 go_on c cs asked at (suc n) p going e long later =
     let size = length-append (chunk_bytes c) (body cs) in
     let sizes = ap length (body_more c cs) in
-    let total : at + length (chunk_bytes c) + length (body cs) ≡ at + length (body (c ∷ cs)) = omega (arith, size, sizes) in
+    let total : at + length (chunk_bytes c) + length (body cs) ≡ at + length (body (c ∷ cs)) =
+    omega (arith, size, sizes) in
     ap (λ (bytes : List ℕ). steps n (next (at_stage Going asked at bytes p))) (body_more c cs)
     ∙ (ap (steps n) (chunk_read c (body cs) asked at p e)
     ∙ (ap
@@ -102,7 +103,8 @@ reads_body (Opening mode ∷ cs) last asked at n p is long follow =
 reads_body (Frame f ∷ cs) None asked at n p is long follow = absurd follow
 reads_body (Frame f ∷ cs) (Some mode) asked at n p is long follow =
     go_on (Frame f) cs asked at n p refl
-    (ap (λ (o : Option Mode). chunk_of o (frame_bytes f ++ body cs)) is ∙ reads_what_is_written.frame mode f (body cs) follow.0) long
+    (ap (λ (o : Option Mode). chunk_of o (frame_bytes f ++ body cs)) is
+    ∙ reads_what_is_written.frame mode f (body cs) follow.0) long
     (λ m within. reads_body cs (Some mode) asked (at + length (frame_bytes f)) m _ (frame_keeps asked p f mode is)
     within follow.1)
 reads_body (End ∷ cs) last asked at n p is long follow = absurd follow
@@ -113,7 +115,8 @@ agree_nil [] = refl
 agree_nil (b ∷ bytes) = refl
 
 begun : (asked : ℕ) (rest : List ℕ)
-    → next (at_stage Begun asked 0 (magic ++ rest) nothing_played) ≡ at_stage Going asked (length magic) rest nothing_played
+    → next (at_stage Begun asked 0 (magic ++ rest) nothing_played)
+    ≡ at_stage Going asked (length magic) rest nothing_played
 unfolding magic begun_next
 begun asked rest =
     let whole : List ℕ = 68 ∷ 68 ∷ 82 ∷ 49 ∷ rest in
