@@ -1,8 +1,10 @@
 -- What one duplicator answers, told by its memory and the list.
-use Rattle.std.specs.Prelude.{◌≡◌, ℕ, ◌+◌, Bool, true, false, ◌||◌, if◌then◌else◌, List, length, drop, replicate, Option, Some, None, is_some, option_map, Result, Ok, Err, is_ok, IsOk}
+use Rattle.std.specs.Prelude.{◌≡◌, ℕ, ◌+◌, ◌^◌, ◌≤◌, ◌<◌, Bool, true, false, ◌||◌, if◌then◌else◌, List, length, drop, replicate, Option, Some, None, is_some, option_map, Result, Ok, Err, is_ok, IsOk}
 use Rattle.dd_geom.specs.Grid.{rows}
 use Rattle.dd_pointer.specs.declared.shape.ShapeInfo.{ShapeInfo}
 use Rattle.dd_pointer.specs.Shape.{info_of}
+use Rattle.dd_coal.specs.declared.coalescing.TheConstants.{MAX_RECTS}
+use Rattle.dd_acc.specs.declared.interval.TheConstants.{MAX_MOVES}
 use Rattle.dd_meta.specs.Buffer.{bytes_of_moves, bytes_of_rects, put}
 use Rattle.dd_log.specs.declared.answers.Answer.{Answer}
 use Rattle.dd_log.specs.declared.answers.Answer.TheVariants as answers
@@ -190,3 +192,9 @@ IsNewsOr answer reply = reply ≡ answer
 abbrev pub IsNotShort : Result ℕ DupRefusal → Type 0
 IsNotShort (Err (MoreData required)) = ⊥
 IsNotShort answer = Unit {0}
+
+-- a frame has at most 16 moves and 64 dirty rectangles, and its presents are a number of 32 bits
+abbrev pub IsBounded : Answer → Type 0
+IsBounded (answers.Frame info moves dirt) =
+    (length moves ≤ MAX_MOVES) × (length dirt ≤ MAX_RECTS) × (info.accumulated < 2 ^ 32)
+IsBounded _ = Unit {0}

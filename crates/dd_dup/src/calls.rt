@@ -1,10 +1,12 @@
 //! What a duplicator answers to a call, with copies of what a frame lends.
 
-ghost use Rattle.std.specs.Prelude.{◌≡◌, IfOk, OnOk, OnErr, IsOk, IsSome, length};
+ghost use Rattle.std.specs.Prelude.{◌≡◌, ◌≤◌, IfOk, OnOk, OnErr, IsOk, IsSome, length};
 ghost use Rattle.dd_geom.specs.Grid.{rows};
 ghost use Rattle.dd_pointer.specs.Shape.{info_of};
+ghost use Rattle.dd_coal.specs.declared.coalescing.TheConstants.{MAX_RECTS};
+ghost use Rattle.dd_acc.specs.declared.interval.TheConstants.{MAX_MOVES};
 ghost use Rattle.dd_dup.specs.News.{held_shape};
-ghost use Rattle.dd_dup.specs.Reply.{acquire_reply, acquire_memory, acquire_answer, release_reply, release_memory, release_answer, held_memory, moves_reply, dirty_reply, shape_reply, buffer_answer, shape_answer, in_buffer, held_shape_info, filled_buffer, surface_reply, desc_reply};
+ghost use Rattle.dd_dup.specs.Reply.{acquire_reply, acquire_memory, acquire_answer, release_reply, release_memory, release_answer, held_memory, moves_reply, dirty_reply, shape_reply, buffer_answer, shape_answer, in_buffer, held_shape_info, filled_buffer, surface_reply, desc_reply, IsBounded};
 ghost use Rattle.dd_dup.specs.Stands.{Stands};
 
 use crate::duplicator::Dup;
@@ -44,6 +46,8 @@ pub enum DupCall {
 fn lists_of(alloc: Global, news: &News) -> Result<(Moves, Rects), AllocError>
     ensures moves { IfOk result (λ l. l.0 ≡ news.now.picture.moves) }
     ensures dirt { IfOk result (λ l. l.1 ≡ news.now.picture.dirt) }
+    ensures few_moves { IfOk result (λ l. length l.0 ≤ MAX_MOVES) }
+    ensures few_rects { IfOk result (λ l. length l.1 ≤ MAX_RECTS) }
 {
     let moves = Vec::from_slice(alloc, news.picture.moves.as_slice())?;
     let dirt = Vec::from_slice(alloc, news.picture.dirt.as_slice())?;
@@ -64,6 +68,7 @@ fn refused(refusal: DupRefusal) -> Answer
 pub(crate) fn acquire(alloc: Global, dup: &mut Dup, log: &Log) -> Result<Answer, AllocError>
     requires { Stands dup.old log.now }
     ensures answer { IfOk result (λ a. a ≡ acquire_answer (acquire_reply dup.old.memory log.now)) }
+    ensures bounded { IfOk result (λ a. IsBounded a) }
     ensures memory { OnOk result (dup.new.memory ≡ acquire_memory dup.old.memory log.now) }
     ensures err { OnErr result (dup.new ≡ dup.old) }
     ensures wants { OnErr result (IsOk (acquire_reply dup.old.memory log.now)) }

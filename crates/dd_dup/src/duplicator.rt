@@ -62,7 +62,7 @@ impl Dup {
     ghost use Rattle.dd_log.specs.History.{desk, legal, any_begins};
     ghost use Rattle.dd_log.specs.Picture.{view};
     ghost use Rattle.dd_dup.specs.News.{news, news_since, frame, held_info, held_moves, held_dirt, held_shape, picture_since, shape_bytes};
-    ghost use Rattle.dd_dup.specs.Reply.{fresh_memory, granted, given_news, is_lost, is_new, held_reply, release_reply, moves_reply, dirty_reply, shape_reply, reply, call_takes_memory, Answers, IsNewsOr, IsNotShort};
+    ghost use Rattle.dd_dup.specs.Reply.{fresh_memory, granted, given_news, is_lost, is_new, held_reply, release_reply, moves_reply, dirty_reply, shape_reply, reply, call_takes_memory, Answers, IsNewsOr, IsNotShort, IsBounded};
     ghost use Rattle.dd_dup.specs.Duplicator.{holding, released, lent, IsRefused, IsRefusedBy, IsLookedAt, HeldRebuilds, IsReached, IsExactSince};
     ghost use Rattle.dd_dup.specs.Stands.{Stands, StandsOnceOpened};
     ghost use Rattle.dd_dup.specs.Veil.{HoldsVeil, LendsVeil};
@@ -328,6 +328,7 @@ impl Dup {
     pub fn ask(&mut self, log: &Log, call: DupCall) -> Result<Answer, AllocError>
         requires { Stands self.old log.now }
         ensures answer { IfOk result (λ a. a ≡ (reply call self.old.memory log.now).0) }
+        ensures bounded { IfOk result (λ a. IsBounded a) }
         ensures memory { OnOk result (self.new.memory ≡ (reply call self.old.memory log.now).1) }
         ensures err { OnErr result (self.new ≡ self.old) }
         ensures wants { OnErr result (IsTrue (call_takes_memory call self.old.memory log.now)) }

@@ -3,3 +3,8 @@ pub mod Station
 pub mod Opening
 pub mod Independence
 pub mod Veil
+pub mod Trace
+pub mod Causes
+pub mod Entered
+pub mod Headline
+pub mod Counting

@@ -1,6 +1,7 @@
 //! What a client is answered that asks its duplicator something.
 
 ghost use Rattle.std.specs.Prelude.{◌≡◌, IsTrue, IfOk, OnOk, OnErr};
+ghost use Rattle.dd_dup.specs.Reply.{IsBounded};
 ghost use Rattle.dd_station.specs.Run.{client_reply, asking_takes_memory};
 ghost use Rattle.dd_station.specs.Station.{memory, MayStand};
 
@@ -16,6 +17,7 @@ pub(crate) fn answer_of(
 ) -> Result<Answer, AllocError>
     requires { MayStand dup.old log.now }
     ensures answer { IfOk result (λ a. a ≡ (client_reply call (memory dup.old) log.now).0) }
+    ensures bounded { IfOk result (λ a. IsBounded a) }
     ensures memory { OnOk result (memory dup.new ≡ (client_reply call (memory dup.old) log.now).1) }
     ensures err { OnErr result (dup.new ≡ dup.old) }
     ensures wants { OnErr result (IsTrue (asking_takes_memory call (memory dup.old) log.now)) }

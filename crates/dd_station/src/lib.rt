@@ -3,6 +3,7 @@
 
 mod calls;
 mod closing;
+mod counting;
 mod laws;
 mod opening;
 mod station;
@@ -10,7 +11,8 @@ mod steps;
 #[cfg(test)]
 mod tests;
 
+pub use counting::{Counts, count_steps};
 pub use dd_log::Answer;
-pub use laws::{clients_are_independent, hidden_content};
+pub use laws::{clients_are_independent, headline, hidden_content};
 pub use station::Station;
 pub use steps::{ClientCall, MAX_CLIENTS, Script, Step, Steps};

@@ -4,6 +4,7 @@ ghost use Rattle.std.specs.Prelude.{◌≡◌, ◌+◌, ◌-◌, ◌^◌, ◌≤
 ghost use Rattle.dd_log.specs.Desk.{finds_slot};
 ghost use Rattle.dd_log.specs.History.{allowed, desk, last_step};
 ghost use Rattle.dd_log.specs.declared.events.TheConstants.{MAX_CAPACITY};
+ghost use Rattle.dd_dup.specs.Reply.{IsBounded};
 ghost use Rattle.dd_station.specs.declared.steps.TheConstants.{MAX_CLIENTS};
 ghost use Rattle.dd_station.specs.Run.{draw_answer, draw_history};
 
@@ -50,6 +51,7 @@ impl Model for Station {
 fn draw(log: &mut Log, drawing: &Draw, step: u32) -> Result<Answer, AllocError>
     requires { last_step log.old.entries 0 < step }
     ensures answer { IfOk result (λ a. a ≡ draw_answer (allowed log.old drawing.now) (length log.old.entries + 1)) }
+    ensures bounded { IfOk result (λ a. IsBounded a) }
     ensures list { OnOk result (log.new ≡ draw_history (allowed log.old drawing.now) log.old
         (record { actor = 0; step = step; event = Event.Draw drawing.now })) }
     ensures err { OnErr result (log.new ≡ log.old) }
@@ -104,6 +106,7 @@ impl Station {
     fn draw(&mut self, drawing: &Draw) -> Result<Answer, AllocError>
         requires { self.old.steps < 2 ^ 32 - 1 }
         ensures answer { IfOk result (λ a. a ≡ (draw_outcome self.old drawing.now).0) }
+        ensures bounded { IfOk result (λ a. IsBounded a) }
         ensures state { OnOk result (self.new ≡ (draw_outcome self.old drawing.now).1) }
         ensures err { OnErr result (self.new ≡ self.old) }
     {
@@ -119,6 +122,7 @@ impl Station {
         requires count { self.old.steps < 2 ^ 32 - 1 }
         ensures answer { IfOk result (λ a. a ≡
             (opening_outcome (opening self.old.history (app_of self.old client)) self.old client).0) }
+        ensures bounded { IfOk result (λ a. IsBounded a) }
         ensures state { OnOk result (self.new ≡
             (opening_outcome (opening self.old.history (app_of self.old client)) self.old client).1) }
         ensures err { OnErr result (self.new ≡ self.old) }
@@ -158,6 +162,7 @@ impl Station {
         requires count { self.old.steps < 2 ^ 32 - 1 }
         ensures answer { result ≡ (closing_outcome
             (closing self.old.history (slot_of (memory_of self.old client) self.old.history)) self.old client).0 }
+        ensures bounded { IsBounded result }
         ensures state { self.new ≡ (closing_outcome
             (closing self.old.history (slot_of (memory_of self.old client) self.old.history)) self.old client).1 }
     {
@@ -183,6 +188,7 @@ impl Station {
         requires to { client ≤ length self.old.clients }
         requires count { self.old.steps < 2 ^ 32 - 1 }
         ensures answer { IfOk result (λ a. a ≡ (asking_outcome self.old client call).0) }
+        ensures bounded { IfOk result (λ a. IsBounded a) }
         ensures state { OnOk result (self.new ≡ (asking_outcome self.old client call).1) }
         ensures err { OnErr result (self.new ≡ self.old) }
         ensures wants { OnErr result (IsTrue (asks_memory self.old client call)) }
@@ -200,6 +206,7 @@ impl Station {
         requires client { IsOfClient (length self.old.clients) step.now }
         requires count { self.old.steps < 2 ^ 32 - 1 }
         ensures answer { IfOk result (λ a. a ≡ (next self.old step.now).0) }
+        ensures bounded { IfOk result (λ a. IsBounded a) }
         ensures state { OnOk result (self.new ≡ (next self.old step.now).1) }
         ensures err { OnErr result (self.new ≡ self.old) }
         ensures wants { OnErr result (IsTrue (step_takes_memory self.old step.now)) }
@@ -215,6 +222,7 @@ impl Station {
         requires to { client ≤ length self.old.clients }
         requires count { self.old.steps < 2 ^ 32 - 1 }
         ensures answer { IfOk result (λ a. a ≡ (call_outcome self.old client call).0) }
+        ensures bounded { IfOk result (λ a. IsBounded a) }
         ensures state { OnOk result (self.new ≡ (call_outcome self.old client call).1) }
         ensures err { OnErr result (self.new ≡ self.old) }
         ensures wants { OnErr result (IsTrue (client_takes_memory self.old client call)) }

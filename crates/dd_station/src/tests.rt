@@ -1,13 +1,15 @@
 //! Steps on small outputs with answers that are worked out by hand. Each case is a row of a table.
 
 ghost use Rattle.std.specs.Prelude.{◌≡◌, ◌+◌, ◌<◌, length, IfOk, OnOk};
+ghost use Rattle.std.specs.List.{AllByRecursion};
 ghost use Rattle.dd_station.specs.Run.{IsOfClient};
 
 mod cases;
 
-use crate::{Answer, ClientCall, Station, Step};
+use crate::{Answer, ClientCall, Counts, Station, Step, count_steps};
 use cases::{
-    Act, BUFFERS, Case, Dirt, Drawing, FRAMES, LISTS, SCROLLS, Told, ToldFrame, Want, tooth,
+    Act, BUFFERS, COUNTED, Case, Dirt, Drawing, FRAMES, LISTS, SCROLLS, Told, ToldFrame, Want,
+    tooth,
 };
 use dd_geom::{Point, Rect};
 use dd_log::{Apps, Draw, Rows, Spec};
@@ -214,5 +216,37 @@ fn the_cases_hold(rt: HostRuntime) -> Result<(), Fail> {
             holds(&rt, rt.alloc(), case)?;
         }
     }
+    Ok(())
+}
+
+/// The steps of a case.
+fn steps_of(alloc: Global, rows: &[(Act, Want)]) -> Result<Vec<Step>, Fail>
+    ensures { IfOk result (λ v. AllByRecursion (IsOfClient 2) v.items) }
+{
+    let mut steps = Vec::new(alloc);
+    for (act, _) in rows {
+        steps.push(step_of(alloc, *act)?)?;
+    }
+    Ok(steps)
+}
+
+#[test]
+fn answers_are_counted(rt: HostRuntime) -> Result<(), Fail> {
+    holds(&rt, rt.alloc(), &COUNTED)?;
+    let mut station = station(&rt, rt.alloc(), &COUNTED)?;
+    let steps = steps_of(rt.alloc(), COUNTED.steps)?;
+    assert!(rt; steps.len() <= 100);
+    let counts = count_steps(&mut station, &steps)?;
+    let want = Counts {
+        acquired: 2,
+        coalesced: 1,
+        entries: 5,
+        frames: 3,
+        moves: 1,
+        rects: 1,
+        refused: 5,
+        steps: 14,
+    };
+    assert_eq!(rt; counts, want);
     Ok(())
 }

@@ -1,6 +1,8 @@
-//! The cases: the steps on an output, and their answers. They stand in four tables.
+//! The cases: the steps on an output, and their answers. They stand in four tables, and one by
+//! itself, whose answers are counted too.
 
 mod buffers;
+mod counts;
 mod frames;
 mod lists;
 mod parts;
@@ -8,6 +10,7 @@ mod scrolls;
 
 use crate::ClientCall;
 pub use buffers::BUFFERS;
+pub use counts::COUNTED;
 use dd_geom::{Move, Point, Rect};
 use dd_log::{CloseRefusal, DupRefusal, FrameInfo, LogRefusal, OpenRefusal};
 use dd_modes::Mode;

@@ -1,0 +1,105 @@
+-- What holds of every run, in one statement: of each step, what it is answered, and why.
+use Rattle.std.specs.Prelude.{◌≡◌, ◌≤◌, ℕ, true, false, not, if◌then◌else◌, List, [], ◌∷◌, ◌++◌, length, drop, Option, Some, None, is_some, option_map}
+use Rattle.std.specs.List.{AllByRecursion}
+use Rattle.dd_geom.specs.declared.rect.Rect.{Rect}
+use Rattle.dd_geom.specs.declared.rect.Move.{Move}
+use Rattle.dd_geom.specs.Grid.{rows}
+use Rattle.dd_acc.specs.Effects.{any_reaches}
+use Rattle.dd_acc.specs.Rebuild.{any_has, rebuild}
+use Rattle.dd_log.specs.declared.answers.Answer.{Answer}
+use Rattle.dd_log.specs.declared.answers.Answer.TheVariants as answers
+use Rattle.dd_log.specs.declared.answers.FrameInfo.{FrameInfo}
+use Rattle.dd_log.specs.History.{History, desk_mode, first_entries}
+use Rattle.dd_log.specs.Picture.{presents, view}
+use Rattle.dd_dup.specs.declared.frame.Frame.{Frame}
+use Rattle.dd_dup.specs.News.{moves_of, dirt_of}
+use Rattle.dd_dup.specs.Reply.{Memory}
+use Rattle.dd_station.specs.declared.steps.TheConstants.{MAX_CLIENTS}
+use Rattle.dd_station.specs.declared.steps.Script.{Script}
+use Rattle.dd_station.specs.declared.steps.Step.{Step}
+use Rattle.dd_station.specs.declared.steps.Step.TheVariants as steps
+use Rattle.dd_station.specs.Run.{IsOfClient}
+use Rattle.dd_station.specs.Trace.{Moment, trace, whole_list, caller, place_of, opening_of, picture_seen, pointer_seen, frame_held}
+use Rattle.dd_station.specs.Causes.{causes_of, first_of, refusal_in, is_granted}
+use Rattle.dd_station.specs.Entered.{number_in, entry_told, entries_told, IsEntered}
+
+-- ---- what a client's duplicator remembers is what its answers told
+
+abbrev pub as_told : Frame → Answer
+as_told f = answers.Frame f.info f.moves f.dirt
+
+-- It was opened where the client's last opening stands; it has seen up to its last frame, or else up to where the
+-- picture began at its opening; and it holds the frame that it was given and didn't let go.
+pub record Remembers (k : ℕ) (before : List Moment) (d : Memory) : Type 0 where
+  pub opened : option_map place_of (opening_of k before) ≡ Some d.opened
+  pub picture : picture_seen k before ≡ Some d.mark
+  pub pointer : pointer_seen k before ≡ Some d.pointer_mark
+  pub held : frame_held k before ≡ option_map as_told d.held
+
+-- and it has none where it opened none, or closed it
+abbrev pub MayRemember : ℕ → List Moment → Option Memory → Type 0
+MayRemember k before None = opening_of k before ≡ None
+MayRemember k before (Some d) = Remembers k before d
+
+abbrev pub IsRemembered : List Moment → Option Memory → Step → Type 0
+IsRemembered before memory (steps.Draw d) = Unit {0}
+IsRemembered before memory (steps.Call k call) = MayRemember k before memory
+
+-- ---- what a frame tells
+
+-- A frame over a list, of a duplicator that has seen the first entries of it: those are never more than the list has;
+-- the frame counts the presents behind them; what was seen then, with the frame's moves drawn in their order and then
+-- its dirty rectangles copied from what is seen of the list now, is exactly that; and unless the rectangles were
+-- rounded, each of their points was drawn or scrolled to since then.
+pub record Shows (before : ℕ) (h : History) (info : FrameInfo) (moves : List Move) (dirt : List Rect) : Type 0 where
+  pub within : before ≤ length h.entries
+  pub counted : info.accumulated ≡ length (presents (drop before h.entries))
+  pub rebuilt : rebuild (view (first_entries before h)) moves dirt (view h) ≡ view h
+  pub scrolls : moves ≡ moves_of (drop before h.entries)
+  pub dirty : dirt ≡ dirt_of (desk_mode h).width (desk_mode h).height (drop before h.entries)
+  pub honest : info.coalesced ≡ false
+      → (x y : ℕ) → any_has dirt x y ≡ true → any_reaches (presents (drop before h.entries)) x y ≡ true
+
+-- an answer that is a frame shows the list from where its client had seen it
+abbrev pub FrameShows : ℕ → List Moment → History → Answer → Type 0
+FrameShows k before h (answers.Frame info moves dirt) =
+    (seen : ℕ) × (picture_seen k before ≡ Some seen) × Shows seen h info moves dirt
+FrameShows k before h _ = Unit {0}
+
+-- the rows of what is seen of the first entries
+abbrev pub rows_at : History → ℕ → List (List ℕ)
+rows_at h place = rows (view (first_entries place h))
+
+-- the rows that are lent are those of the one list after the entries that the held frame saw; none where none is held
+abbrev pub SurfaceShows : ℕ → List Moment → History → Answer → Type 0
+SurfaceShows k before h (answers.Surface given) =
+    given ≡ (if is_some (frame_held k before) then option_map (rows_at h) (picture_seen k before) else None)
+SurfaceShows k before h _ = Unit {0}
+
+-- ---- the headline
+
+-- Of a step, with those before it: its list is a beginning of the one list, and has the entries that the answers before
+-- it told and no other; its client's duplicator remembers what its answers told; it is refused exactly where a cause
+-- stands, by the first in order, and else is given what it asks for; what it is given shows the list; and where its
+-- answer names an event number, that is the next one, and the one list has there what the step entered.
+pub record IsRight (script : Script) (before : List Moment) (m : Moment) : Type 0 where
+  pub one_list : m.list ≡ first_entries (place_of m) (whole_list script)
+  pub listed : m.list.entries ≡ entries_told script.clients [] before
+  pub remembered : IsRemembered before m.memory m.step
+  pub refused : refusal_in m.answer ≡ first_of (causes_of script.clients m)
+  pub granted : is_granted m.step m.answer ≡ not (is_some (refusal_in m.answer))
+  pub frame : FrameShows (caller m.step) before m.list m.answer
+  pub surface : SurfaceShows (caller m.step) before m.list m.answer
+  pub entered :
+      IsEntered (whole_list script) (place_of m) (number_in m.answer) (entry_told script.clients before m)
+
+-- each step of a script is right
+abbrev pub Headline : Script → Type 0
+Headline script =
+    (before later : List Moment) (m : Moment) → trace script ≡ before ++ m ∷ later → IsRight script before m
+
+-- Every script of at most 16 clients, whose calls are of one of them, has it.
+abbrev pub HeadlineHolds : Type 0
+HeadlineHolds =
+    (script : Script) → length script.clients ≤ MAX_CLIENTS
+    → AllByRecursion (IsOfClient (length script.clients)) script.steps → Headline script
