@@ -16,3 +16,7 @@ pub mod AnswerExamples
 pub mod InRange
 pub mod ReadBack
 pub mod SpellingExamples
+pub mod WholeNumbers
+pub mod LineFeed
+pub mod TreeBack
+pub mod LineBack

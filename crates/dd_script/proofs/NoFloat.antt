@@ -18,16 +18,16 @@ coordinate_has_none : (z : ℤ) → is_float (of_integer z) ≡ false
 coordinate_has_none (pos n) = refl
 coordinate_has_none (negsuc n) = refl
 
-list_has_none : {T : Type 0} (f : T → Data) → ((x : T) → has_float (f x) ≡ false) → (xs : List T)
+pub list_has_none : {T : Type 0} (f : T → Data) → ((x : T) → has_float (f x) ≡ false) → (xs : List T)
     → items_have_float (items_of (map f xs)) ≡ false
 list_has_none f h [] = refl
 list_has_none f h (x ∷ xs) = rw (h x, list_has_none f h xs)
 
-point_has_none : (p : Point) → has_float (point_tree p) ≡ false
+pub point_has_none : (p : Point) → has_float (point_tree p) ≡ false
 unfolding point_tree
 point_has_none p = simp coordinate_has_none
 
-rect_has_none : (r : Rect) → has_float (rect_tree r) ≡ false
+pub rect_has_none : (r : Rect) → has_float (rect_tree r) ≡ false
 unfolding rect_tree
 rect_has_none r = simp coordinate_has_none
 

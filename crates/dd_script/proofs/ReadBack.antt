@@ -195,12 +195,12 @@ IsBytes-all (b ∷ bytes) h =
     IsBytes-cons b bytes (ltb-true _ _ both.0) (IsBytes-all bytes both.1)
 
 -- a shape's kind and height are numbers
-kind_passes : (kind : Kind) → is_number (number kind) ≡ true
+pub kind_passes : (kind : Kind) → is_number (number kind) ≡ true
 kind_passes Monochrome = refl
 kind_passes Color = refl
 kind_passes MaskedColor = refl
 
-height_passes : (kind : Kind) (n : ℕ) → is_height kind n ≡ true → is_number n ≡ true
+pub height_passes : (kind : Kind) (n : ℕ) → is_height kind n ≡ true → is_number n ≡ true
 height_passes Monochrome n h =
     let both = and_parts (nat_le 2 n && nat_le n MAX_MASK_HEIGHT) (n % 2 == 0) h in
     let few = leb-true n MAX_MASK_HEIGHT (and_parts (nat_le 2 n) (nat_le n MAX_MASK_HEIGHT) both.0).1 in
@@ -212,7 +212,7 @@ height_passes MaskedColor n h =
     let few = leb-true n MAX_HEIGHT (and_parts (nat_le 1 n) (nat_le n MAX_HEIGHT) h).1 in
     lt-ltb _ _ (omega arith)
 
-nothing : {A : Type 0} (o : Option A) → is_none o ≡ true → o ≡ None
+pub nothing : {A : Type 0} (o : Option A) → is_none o ≡ true → o ≡ None
 nothing None h = refl
 nothing (Some x) h = absurd (false≢true h)
 
@@ -299,7 +299,7 @@ rotation_back Rotate90 = refl
 rotation_back Rotate180 = refl
 rotation_back Rotate270 = refl
 
-turn_passes : (r : Rotation) → is_number (number_of r) ≡ true
+pub turn_passes : (r : Rotation) → is_number (number_of r) ≡ true
 turn_passes Unspecified = refl
 turn_passes Identity = refl
 turn_passes Rotate90 = refl
@@ -307,7 +307,7 @@ turn_passes Rotate180 = refl
 turn_passes Rotate270 = refl
 
 -- a side within the limit is a number
-side_passes : (n : ℕ) → nat_le n MAX_SIDE ≡ true → is_number n ≡ true
+pub side_passes : (n : ℕ) → nat_le n MAX_SIDE ≡ true → is_number n ≡ true
 side_passes n h = let below = leb-true _ _ h in lt-ltb _ _ (omega arith)
 
 mode_back : (m : Mode) → is_mode m ≡ true → mode_of (mode_tree m) ≡ Some m

@@ -1,4 +1,4 @@
--- The limits as numbers, and the text of some trees that scripts have of their own.
+-- The limits as numbers, and the text of some trees that scripts and counts have of their own.
 use Rattle.std.proofs.Common.{◌≡◌, ◌^◌, [], ◌∷◌, ℕ, true, false, codes, refl, pos, negsuc, map, replicate}
 use Rattle.serde_json.specs.Written.{compact_text}
 use Rattle.dd_modes.specs.declared.modes.Rotation.TheVariants.{Identity}
@@ -20,6 +20,7 @@ use Rattle.dd_log.specs.declared.events.TheConstants.{MAX_PRIVILEGED}
 use Rattle.dd_script.specs.declared.reading.calls.TheConstants.{MAX_BUFFER}
 use Rattle.dd_script.specs.Script.{keeps_limits}
 use Rattle.dd_script.proofs.OnLiterals.{answers_on_literals}
+use Rattle.dd_script.specs.Texts.{counts_tree, counts_line}
 use Rattle.dd_script.specs.Spelling.{op_tree, shape_step_tree, draw_tree, step_tree, mode_tree, spelling, is_readable}
 
 -- ---- limits
@@ -105,3 +106,17 @@ text_of_each_kind : compact_text (spelling each_kind)
     ≡ codes "{\"capacity\":100,\"clients\":[1,4294967295],\"modes\":[[4,3,1]],\"privileged\":[7],\"steps\":[{\"call\":\"duplicate\",\"client\":1},{\"present\":[{\"colour\":\"ff8001\",\"fill\":[1,2,3,4]},{\"blit\":[-5,7,9,8],\"colours\":\"0000ff010203\"},{\"colours\":\"abcdef\",\"cover\":[10,11,12,-13]},{\"from\":[5,6],\"scroll\":[1,0,2,9]}]},{\"mode\":4294967295},{\"switch\":false},{\"switch\":true},{\"disconnect\":true},{\"reconnect\":true},{\"pointer\":[-1,2],\"visible\":true},{\"bytes\":\"0102feff05060700\",\"height\":2,\"hot\":[3,-4],\"shape\":4,\"width\":1},{\"buffer\":524288,\"call\":\"moves\",\"client\":1},{\"buffer\":0,\"call\":\"dirty\",\"client\":2},{\"buffer\":7,\"call\":\"shape\",\"client\":1},{\"call\":\"acquire\",\"client\":2},{\"call\":\"release\",\"client\":1},{\"call\":\"surface\",\"client\":1},{\"call\":\"desc\",\"client\":1},{\"call\":\"close\",\"client\":2}]}"
 unfolding answers_on_literals spelling mode_tree step_tree draw_tree shape_step_tree op_tree
 text_of_each_kind = refl
+
+line_of_counts : counts_line (record {
+  acquired = 387;
+  coalesced = 0;
+  entries = 406;
+  frames = 900;
+  moves = 180;
+  rects = 18446744073709551615;
+  refused = 0;
+  steps = 1180;
+})
+    ≡ codes "{\"acquired\":387,\"coalesced\":0,\"entries\":406,\"frames\":900,\"moves\":180,\"rects\":18446744073709551615,\"refused\":0,\"steps\":1180}\n"
+unfolding answers_on_literals counts_line counts_tree
+line_of_counts = refl

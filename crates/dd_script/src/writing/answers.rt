@@ -76,7 +76,7 @@ fn desc_tree(alloc: Global, mode: Mode) -> Result<Value, AllocError>
 }
 
 /// A rotation by the API's number.
-fn number_of(rotation: Rotation) -> u32
+pub fn number_of(rotation: Rotation) -> u32
     ensures { result ≡ number_of rotation }
 {
     match rotation {

@@ -54,7 +54,7 @@ pub fn point_tree(alloc: Global, p: Point) -> Result<Value, AllocError>
 
 /// A rectangle, as its left, top, right and bottom sides.
 #[tactic(auto, unfolding(crate::specs::Answers::rect_tree))]
-fn rect_tree(alloc: Global, r: Rect) -> Result<Value, AllocError>
+pub fn rect_tree(alloc: Global, r: Rect) -> Result<Value, AllocError>
     ensures { IfOk result (λ v. view v ≡ rect_tree r) }
 {
     json!(in alloc; [r.left, r.top, r.right, r.bottom])

@@ -1,12 +1,13 @@
-//! The lines of answers, each kind once, with ample memory.
+//! The lines of answers, of a script and of counts, with ample memory, each kind of part once.
 
-use crate::{Text, answer_text};
+use crate::{Text, answer_text, counts_text, read_steps, script_text};
 use dd_geom::{Move, Moves, Point, Rect, Rects};
 use dd_io::Bytes;
 use dd_log::{Answer, CloseRefusal, DupRefusal, FrameInfo, LogRefusal, OpenRefusal, Pointer, Rows};
 use dd_modes::{Mode, Rotation};
 use dd_ops::Colours;
 use dd_pointer::ShapeInfo;
+use dd_station::Counts;
 use std::alloc::{AllocError, Global};
 use std::test::Fail;
 
@@ -154,5 +155,69 @@ fn lines(rt: HostRuntime) -> Result<(), Fail> {
 fn bytes_of_a_text(rt: HostRuntime) -> Result<(), Fail> {
     let text = Text::from_string(String::from_str(rt.alloc(), "{}\n")?);
     assert_eq!(rt; text.as_bytes(), [0x7b, 0x7d, 0x0a].as_slice());
+    Ok(())
+}
+
+/// The line of the script that a text is; nothing where it is none.
+fn rewritten(alloc: Global, text: &[u8]) -> Result<Text, AllocError> {
+    match read_steps(alloc, text) {
+        Ok(script) => script_text(alloc, &script),
+        Err(_) => Ok(Text::from_vec(Vec::new(alloc))),
+    }
+}
+
+#[test]
+fn scripts(rt: HostRuntime) -> Result<(), Fail> {
+    let line: &[u8] = b"{\"capacity\":100,\"clients\":[1,9],\"modes\":[[4,3,1],[3,4,0]],\
+        \"privileged\":[9],\"steps\":[{\"call\":\"duplicate\",\"client\":1},{\"present\":[\
+        {\"colour\":\"ff8001\",\"fill\":[1,0,4,2]},\
+        {\"blit\":[1,0,3,1],\"colours\":\"ff8001000102\"},\
+        {\"colours\":\"00ff00\",\"cover\":[3,2,4,3]},\
+        {\"from\":[-3,7],\"scroll\":[2,-1,4,1]}]},\
+        {\"call\":\"acquire\",\"client\":1},{\"call\":\"surface\",\"client\":1},\
+        {\"call\":\"release\",\"client\":1},{\"call\":\"desc\",\"client\":2},\
+        {\"call\":\"close\",\"client\":1},{\"mode\":7},{\"switch\":true},\
+        {\"disconnect\":true},{\"reconnect\":true},\
+        {\"pointer\":[-3,2],\"visible\":true},\
+        {\"bytes\":\"c0008080\",\"height\":4,\"hot\":[1,-1],\"shape\":1,\"width\":2},\
+        {\"buffer\":24,\"call\":\"moves\",\"client\":1},\
+        {\"buffer\":0,\"call\":\"dirty\",\"client\":1},\
+        {\"buffer\":524288,\"call\":\"shape\",\"client\":1}]}\n";
+    let other: &[u8] = b" {\"modes\":[[4,3,1],[3,4,0]],\"capacity\":100,\"privileged\":[9],\
+        \"clients\":[1,9],\"steps\":[{\"client\":1,\"call\":\"duplicate\"},{\"present\":[\
+        {\"fill\":[1,0,4,2],\"colour\":\"fF8001\"},\
+        {\"colours\":\"fF8001000102\",\"blit\":[1,0,3,1]},\
+        {\"cover\":[3,2,4,3],\"colours\":\"00FF00\"},\
+        {\"scroll\":[2,-1,4,1],\"from\":[-3,7]}]},\
+        {\"client\":1,\"call\":\"acquire\"},{\"client\":1,\"call\":\"surface\"},\
+        {\"client\":1,\"call\":\"release\"},{\"client\":2,\"call\":\"desc\"},\
+        {\"client\":1,\"call\":\"close\"},{\"mode\":7},{\"switch\":true},\
+        {\"disconnect\":true},{\"reconnect\":true},\
+        {\"visible\":true,\"pointer\":[-3,2]},\
+        {\"shape\":1,\"width\":2,\"height\":4,\"hot\":[1,-1],\"bytes\":\"C0008080\"},\
+        {\"client\":1,\"call\":\"moves\",\"buffer\":24},\
+        {\"client\":1,\"call\":\"dirty\",\"buffer\":0},\
+        {\"client\":1,\"call\":\"shape\",\"buffer\":524288}]}";
+    for text in [line, other] {
+        assert_eq!(rt; rewritten(rt.alloc(), text)?.as_bytes(), line);
+    }
+    Ok(())
+}
+
+#[test]
+fn counts(rt: HostRuntime) -> Result<(), Fail> {
+    let counts = Counts {
+        acquired: 387,
+        coalesced: 12,
+        entries: 406,
+        frames: 900,
+        moves: 180,
+        rects: 18446744073709551615,
+        refused: 0,
+        steps: 1180,
+    };
+    let line: &[u8] = b"{\"acquired\":387,\"coalesced\":12,\"entries\":406,\"frames\":900,\
+        \"moves\":180,\"rects\":18446744073709551615,\"refused\":0,\"steps\":1180}\n";
+    assert_eq!(rt; counts_text(rt.alloc(), &counts)?.as_bytes(), line);
     Ok(())
 }
