@@ -1,0 +1,4 @@
+pub mod Examples
+pub mod Counts
+pub mod Passing
+pub mod Every

@@ -1,0 +1,13 @@
+//! A script that is made from a number: 300 rounds of drawing, and three clients that look.
+#![tactic(auto)]
+
+mod drawing;
+mod generator;
+mod laws;
+mod rounds;
+mod script;
+#[cfg(test)]
+mod tests;
+
+pub use laws::scripts_are_made;
+pub use script::make;
