@@ -1,12 +1,12 @@
 -- What a status says of all the bytes of a source that tells them, and how a command ends where no device failed.
-use Rattle.std.proofs.Common.{◌≡◌, inl, inr, ℕ, ◌<◌, ◌≤◌, List, length, Option, Some, None, IfSome, refl, ap, arith, length-append}
+use Rattle.std.proofs.Common.{◌≡◌, ◌⊎◌, inl, inr, ℕ, ◌<◌, ◌≤◌, List, length, Option, Some, None, IfSome, refl, ap, arith, length-append}
 use Rattle.std.specs.Io.KnownBytes.{Consumes}
 use Rattle.std.proofs.KnownBytes.{Consumes-whole}
 use Rattle.dd_prog.specs.declared.status.Status.{Status}
 use Rattle.dd_prog.specs.declared.status.Status.TheVariants.{Done, OutOfMemory, BadWords, TooLong, BadScript, BadRecord, ReadFault, WriteFault}
-use Rattle.dd_prog.specs.Commands.{Work, IsNoInput}
-use Rattle.dd_prog.specs.Exchange.{Exchange, Side, GaveAll, GaveMore, Took, TookFront, IfTold}
-use Rattle.dd_prog.specs.Outcome.{Ran, Refuses, Ends, Fits, Completes}
+use Rattle.dd_prog.specs.Commands.{Work, Task, works, makes, IsNoInput}
+use Rattle.dd_prog.specs.Exchange.{Exchange, Side, Faulted, GaveAll, GaveMore, Took, TookFront, IfTold}
+use Rattle.dd_prog.specs.Outcome.{Ran, Refuses, Ends, Fits, Completes, Makes, TaskEnds, TaskFits, TaskCompletes}
 
 -- ---- all the bytes of a source
 
@@ -69,9 +69,28 @@ completes ReadFault w x bs ends fits has read write = absurd (read ends.0)
 completes WriteFault w x bs ends fits has read write = absurd (write ends.1)
 
 -- of a source that tells its bytes
-pub told_completes : (status : Status) {S K : Type 0} (w : Work) (x : Exchange S K) → Ends w x status
+told_completes : (status : Status) {S K : Type 0} (w : Work) (x : Exchange S K) → Ends w x status
     → IfTold x.source (Fits w status) → IfTold x.source (Completes w x status)
 told_completes status w x ends fits = by_bytes (x.source.bytes x.source.old) fits where
   by_bytes : (o : Option (List ℕ)) → IfSome o (Fits w status) → IfSome o (Completes w x status)
   by_bytes None fits = tt
   by_bytes (Some bs) fits = completes status w x bs ends fits
+
+-- ---- of any command
+
+-- a text that is made is written, unless memory is wanting or the sink failed
+made_completes : (status : Status) {K : Type 0} (text : List ℕ) (sink : Side K) → Makes text sink status
+    → (Faulted sink → ⊥) → (status ≡ Done) ⊎ (status ≡ OutOfMemory)
+made_completes Done text sink ends write = inl refl
+made_completes OutOfMemory text sink ends write = inr refl
+made_completes BadWords text sink ends write = absurd ends
+made_completes TooLong text sink ends write = absurd ends
+made_completes BadScript text sink ends write = absurd ends
+made_completes BadRecord text sink ends write = absurd ends
+made_completes ReadFault text sink ends write = absurd ends
+made_completes WriteFault text sink ends write = absurd (write ends.1)
+
+pub task_completes : (t : Task) (status : Status) {S K : Type 0} (x : Exchange S K) → TaskEnds t x status
+    → TaskFits t x.source status → TaskCompletes t x status
+task_completes (works w) status x ends fits = told_completes status w x ends fits
+task_completes (makes text) status x ends fits = made_completes status text x.sink ends.1

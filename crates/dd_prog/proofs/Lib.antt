@@ -10,12 +10,17 @@ pub mod NoInput
 pub mod Numerals
 pub mod Examples
 mod Pasting
-mod Running
+pub mod Told
 mod Screens
-mod Others
+mod Following
+mod Taken
 mod Tally
 mod Played
 mod Ranges
 mod RuleKeeping
 mod WholeRecord
 pub mod RecordExamples
+pub mod Calm
+pub mod Rests
+pub mod Generated
+pub mod Granted

@@ -28,9 +28,10 @@ use Rattle.dd_station.proofs.Kept.{begins-with_entry}
 use Rattle.dd_station.proofs.Stepped.{stepped_next}
 use Rattle.dd_view.specs.Playing.{Screen, opened, framed, Shown, Played, nothing_played, frame_if, chunk_played, played}
 use Rattle.dd_prog.specs.Recording.{opening_left, frame_left, acquire_left, acquire_shown, call_left, chunk_left, recorded, frame_shown, call_shown, step_shown, frames_shown, RecordsPlayBack}
-use Rattle.dd_prog.proofs.Running.{IsRun, none_there, run_begun, run_next, StandsFor, stands_for, place_of}
+use Rattle.dd_station.proofs.Running.{IsRun, none_there, run_begun, run_next, StandsFor, stands_for, place_of}
 use Rattle.dd_prog.proofs.Screens.{IsScreenOf, desk_framed, screen_of_desk, shown_desk, screen_opened}
-use Rattle.dd_prog.proofs.Others.{Follows, follows_later, begins_drawn, begins_called, other_called}
+use Rattle.dd_station.proofs.Others.{begins_drawn, begins_called, other_called}
+use Rattle.dd_prog.proofs.Following.{Follows, follows_later}
 use Rattle.dd_prog.proofs.Tally.{Tally, tally_of, counted, counted_if, frames_more, frame_from}
 
 abbrev pub played_if : ℕ → Played → Option Chunk → Played

@@ -36,9 +36,9 @@ use Rattle.dd_view.specs.Playing.{Screen, Played, frame_if}
 use Rattle.dd_view.specs.Player.{open_mode}
 use Rattle.dd_view.specs.Records.{Follow}
 use Rattle.dd_prog.specs.Recording.{opening_left, frame_left, acquire_left, call_left, chunk_left, recorded}
-use Rattle.dd_prog.proofs.Running.{IsRun, run_next, StandsFor, stands_for}
+use Rattle.dd_station.proofs.Running.{IsRun, run_next, StandsFor, stands_for}
 use Rattle.dd_prog.proofs.Ranges.{IsInRange, desk_size, range_next}
-use Rattle.dd_prog.proofs.Others.{Follows}
+use Rattle.dd_prog.proofs.Following.{Follows}
 use Rattle.dd_prog.proofs.Played.{played_if, plays_next}
 
 -- what a step leaves keeps the rules, behind an opening chunk of this mode or behind none

@@ -25,7 +25,7 @@ use Rattle.dd_record.specs.Frames.{frame_chunk, pixels_in}
 use Rattle.dd_view.specs.Playing.{Screen, opened, framed, with_shape, pasted, Shown, shown_of}
 use Rattle.dd_prog.specs.Recording.{desk_shown}
 use Rattle.dd_prog.proofs.Pasting.{IsWhole, whole-moved, pasted_is_copied}
-use Rattle.dd_prog.proofs.Running.{StandsFor}
+use Rattle.dd_station.proofs.Running.{StandsFor}
 
 -- the screen has what was seen of the desk at the memory's mark, the mode at its opening, and the last shape before its
 -- pointer mark

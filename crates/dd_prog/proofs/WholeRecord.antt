@@ -18,13 +18,13 @@ use Rattle.dd_view.specs.Player.{Reader, finish_answer}
 use Rattle.dd_view.proofs.WholeRecords.{reads_records}
 use Rattle.dd_prog.specs.Recording.{recorded, RecordsAreRead, RecordsShowFrames}
 use Rattle.dd_prog.specs.RecordAndView.{RecordsAreViewed}
-use Rattle.dd_prog.proofs.Running.{run_begun}
+use Rattle.dd_station.proofs.Running.{run_begun}
 use Rattle.dd_prog.proofs.Played.{none_follows, records_play_back}
 use Rattle.dd_prog.proofs.Ranges.{IsInRange}
 use Rattle.dd_prog.proofs.RuleKeeping.{follow_all}
 
 -- a script whose parts are in their ranges can be run
-can_run : (script : Script) → is_readable script ≡ true → IsRunnable script
+pub can_run : (script : Script) → is_readable script ≡ true → IsRunnable script
 can_run script t = script_runs (spelling script) script (script_back script t)
 
 -- what the ranges say of its modes and its steps

@@ -1,5 +1,5 @@
 -- An option of a command and its number, in the bytes of the words.
-use Rattle.std.specs.Prelude.{ℕ, nat_le, Bool, false, ◌&&◌, if◌then◌else◌, List, [], ◌∷◌, length, take, drop, bytes_eq, codes, Option, Some, None, option_and_then}
+use Rattle.std.specs.Prelude.{ℕ, nat_le, Bool, false, ◌&&◌, ◌||◌, if◌then◌else◌, List, [], ◌∷◌, length, take, drop, bytes_eq, codes, Option, Some, None, option_and_then}
 use Rattle.std.specs.Str.{all_ascii_digits}
 use Rattle.std.specs.Str.Parse.{digits_value}
 
@@ -20,15 +20,23 @@ abbrev pub begins_from_1 : List ℕ → Bool
 begins_from_1 [] = false
 begins_from_1 (b ∷ bs) = nat_le 49 b && nat_le b 57
 
--- the number that a word writes: a digit from 1 to 9, then digits
+-- the word is 0, or has no 0 before its other digits
+abbrev pub has_no_leading_0 : List ℕ → Bool
+has_no_leading_0 w = bytes_eq w (codes "0") || begins_from_1 w
+
+-- the number that a word writes: 0, or a digit from 1 to 9 and then digits
 abbrev pub numeral : List ℕ → Option ℕ
-numeral w = if begins_from_1 w && all_ascii_digits w then Some (digits_value 10 w) else None
+numeral w = if has_no_leading_0 w && all_ascii_digits w then Some (digits_value 10 w) else None
 
--- a number that is at most `most`
-abbrev pub up_to : ℕ → Option ℕ → Option ℕ
-up_to most None = None
-up_to most (Some n) = if nat_le n most then Some n else None
+-- `u32::MAX`
+abbrev pub u32_max : ℕ
+u32_max = 4294967295
 
--- the number, from 1 to `most`, that the words give to an option
-abbrev pub number_given : List ℕ → ℕ → List (List ℕ) → Option ℕ
-number_given name most ws = up_to most (option_and_then numeral (value_given name ws))
+-- a number from `least` to `most`
+abbrev pub within : ℕ → ℕ → Option ℕ → Option ℕ
+within least most None = None
+within least most (Some n) = if nat_le least n && nat_le n most then Some n else None
+
+-- the number, from `least` to `most`, that the words give to an option
+abbrev pub number_given : List ℕ → ℕ → ℕ → List (List ℕ) → Option ℕ
+number_given name least most ws = within least most (option_and_then numeral (value_given name ws))

@@ -7,7 +7,7 @@ use Rattle.dd_prog.specs.declared.fault.RunFault.TheVariants as faults
 use Rattle.dd_prog.specs.declared.status.Status.{Status}
 use Rattle.dd_prog.specs.declared.status.Status.TheVariants.{Done, OutOfMemory, BadWords, TooLong, BadScript, BadRecord, ReadFault, WriteFault}
 use Rattle.dd_prog.specs.declared.command.Command.{Command}
-use Rattle.dd_prog.specs.Commands.{Work, work, IsNoInput}
+use Rattle.dd_prog.specs.Commands.{Work, Task, works, makes, task, IsNoInput}
 use Rattle.dd_prog.specs.Exchange.{Side, Exchange, Idle, Faulted, GaveAll, GaveMore, Took, TookFront, IfTold}
 
 -- the command's input that all the bytes are, or why there is none
@@ -77,12 +77,39 @@ abbrev pub Completes : {S K : Type 0} → Work → Exchange S K → Status → L
 Completes w x status bs =
     HasInput w bs → (Faulted x.source → ⊥) → (Faulted x.sink → ⊥) → (status ≡ Done) ⊎ (status ≡ OutOfMemory)
 
+-- What the status of a command that reads nothing says of the text that it makes: memory is wanted before a byte is
+-- written.
+abbrev pub Makes : {K : Type 0} → List ℕ → Side K → Status → Type 0
+Makes text sink Done = Took sink text
+Makes text sink OutOfMemory = Idle sink
+Makes text sink BadWords = ⊥
+Makes text sink TooLong = ⊥
+Makes text sink BadScript = ⊥
+Makes text sink BadRecord = ⊥
+Makes text sink ReadFault = ⊥
+Makes text sink WriteFault = TookFront sink text × Faulted sink
+
+-- How a command ends: it reads an input, or its source is as it was.
+abbrev pub TaskEnds : {S K : Type 0} → Task → Exchange S K → Status → Type 0
+TaskEnds (works w) x status = Ends w x status
+TaskEnds (makes text) x status = Idle x.source × Makes text x.sink status
+
+-- what a status says of a source that tells its bytes, where the command reads them
+abbrev pub TaskFits : {S : Type 0} → Task → Side S → Status → Type 0
+TaskFits (works w) source status = IfTold source (Fits w status)
+TaskFits (makes text) source status = Unit {0}
+
+-- Where nothing stands against it, all is done, unless memory is wanting.
+abbrev pub TaskCompletes : {S K : Type 0} → Task → Exchange S K → Status → Type 0
+TaskCompletes (works w) x status = IfTold x.source (Completes w x status)
+TaskCompletes (makes text) x status = (Faulted x.sink → ⊥) → (status ≡ Done) ⊎ (status ≡ OutOfMemory)
+
 -- What a program does, by the command that its words are: nothing where they are none, else what the command's status
 -- says.
 abbrev pub Does : {S K : Type 0} → Option Command → Exchange S K → Status → Type 0
 Does None x status = (status ≡ BadWords) × Idle x.source × Idle x.sink
 Does (Some c) x status =
-    Ends (work c) x status × IfTold x.source (Fits (work c) status) × IfTold x.source (Completes (work c) x status)
+    TaskEnds (task c) x status × TaskFits (task c) x.source status × TaskCompletes (task c) x status
 
 -- the status of a run that ended so
 abbrev pub status_of_run : Result (Unit {0}) RunFault → Status

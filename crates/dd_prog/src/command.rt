@@ -1,17 +1,18 @@
 //! The commands, and the top call over a source and a sink.
 
 ghost use Rattle.std.specs.Prelude.{◌≡◌, ◌↔◌, ◌≤◌, None, IfSome, map, string_bytes};
-ghost use Rattle.dd_prog.specs.Commands.{alone, command_of, work, IsCounted};
-ghost use Rattle.dd_prog.specs.Exchange.{side, IfTold};
-ghost use Rattle.dd_prog.specs.Outcome.{Ends, Fits, Completes};
+ghost use Rattle.dd_prog.specs.Commands.{command_of, task, IsCounted};
+ghost use Rattle.dd_prog.specs.Exchange.{side};
+ghost use Rattle.dd_prog.specs.Outcome.{TaskEnds, TaskFits, TaskCompletes};
+ghost use Rattle.dd_prog.specs.Telling.{Tells};
 
-use crate::options::number_given;
+use crate::command_line::command_of;
+use crate::making::{write_counts, write_script};
 use crate::recording::record;
 use crate::replay::replay;
 use crate::status::Status;
 use crate::viewing::view;
-use dd_io::{Sink, Source};
-use dd_station::MAX_CLIENTS;
+use dd_io::{OutOfMemory, Sink, Source};
 use std::alloc::Global;
 
 /// What the program can do.
@@ -23,43 +24,14 @@ pub enum Command {
     Record { client: u32 },
     /// Reads a record, and writes the picture that is shown after one of its frames, counted from 1.
     View { frame: u32 },
+    /// Writes the script that is made from a seed.
+    Gen { seed: u32 },
+    /// Runs the script that is made from a seed, and writes one line of counts.
+    Sum { seed: u32 },
 }
 
 /// The highest number of a frame that can be asked for.
 pub const MAX_FRAME: u32 = 1_048_576;
-
-/// The command that takes no further word.
-fn alone(command: Command, further: &[String]) -> Option<Command>
-    ensures { result ≡ alone command (map string_bytes further.now) }
-{
-    if further.is_empty() {
-        Some(command)
-    } else {
-        None
-    }
-}
-
-/// The command that the words are.
-fn command_of(words: &[String]) -> Option<Command>
-    ensures value { result ≡ command_of (map string_bytes words.now) }
-    ensures counted { IfSome result IsCounted }
-{
-    let [word, further @ ..] = words else {
-        return None;
-    };
-    match word.as_str() {
-        "replay" => alone(Command::Replay, further),
-        "record" => {
-            let client = number_given("--client", MAX_CLIENTS as u32, further)?;
-            Some(Command::Record { client })
-        }
-        "view" => {
-            let frame = number_given("--frame", MAX_FRAME, further)?;
-            Some(Command::View { frame })
-        }
-        _ => None,
-    }
-}
 
 /// Does one command.
 fn perform<S: Source, K: Sink>(
@@ -69,11 +41,11 @@ fn perform<S: Source, K: Sink>(
     sink: &mut K,
 ) -> Status
     requires { IsCounted command }
-    ensures outcome { Ends (work command) (record {
+    ensures outcome { TaskEnds (task command) (record {
       source = side S.left S.faults source.old source.new;
       sink = side K.held K.faults sink.old sink.new;
     }) result }
-    ensures told { IfTold (side S.left S.faults source.old source.new) (Fits (work command) result) }
+    ensures told { TaskFits (task command) (side S.left S.faults source.old source.new) result }
     ensures later_read { S.faults source.old ≤ S.faults source.new }
     ensures later_write { K.faults sink.old ≤ K.faults sink.new }
 {
@@ -81,6 +53,8 @@ fn perform<S: Source, K: Sink>(
         Command::Replay => replay(alloc, source, sink),
         Command::Record { client } => record(alloc, client, source, sink),
         Command::View { frame } => view(alloc, frame, source, sink),
+        Command::Gen { seed } => write_script(alloc, seed, sink),
+        Command::Sum { seed } => write_counts(alloc, seed, sink),
     }
 }
 
@@ -89,7 +63,8 @@ fn perform<S: Source, K: Sink>(
 /// `replay` reads a script of at most 16,777,216 bytes and writes one answer line for each of its
 /// steps. `record` with `--client` reads a script likewise and writes the record of that client.
 /// `view` with `--frame` reads a record of at most 1,073,741,824 bytes and writes the picture that
-/// it shows after that frame.
+/// it shows after that frame. `gen` and `sum` with `--seed` read nothing: `gen` writes the script
+/// that is made of the seed, `sum` the counts of the answers to it.
 pub fn plain<S: Source, K: Sink>(
     alloc: Global,
     words: &Vec<String>,
@@ -100,24 +75,33 @@ pub fn plain<S: Source, K: Sink>(
     ensures words { (result ≡ Status.BadWords) ↔ (command_of (map string_bytes words.now.items) ≡ None) }
     ensures idle { result ≡ Status.BadWords → (source.new ≡ source.old) × (sink.new ≡ sink.old) }
     // Done: the input was read to its end, and what was written is the text of the command's work on
-    // the input that it is, nothing else. The other statuses come only where their causes stood.
-    ensures outcome { IfSome (command_of (map string_bytes words.now.items)) (λ c. Ends (work c) (record {
+    // the input that it is, nothing else; or the command reads nothing, and its words tell what was
+    // written. The other statuses come only where their causes stood.
+    ensures outcome { IfSome (command_of (map string_bytes words.now.items)) (λ c. TaskEnds (task c) (record {
       source = side S.left S.faults source.old source.new;
       sink = side K.held K.faults sink.old sink.new;
     }) result) }
     // Of a source that tells its bytes, each status says what they are.
     ensures told { IfSome (command_of (map string_bytes words.now.items)) (λ c.
-        IfTold (side S.left S.faults source.old source.new) (Fits (work c) result)) }
+        TaskFits (task c) (side S.left S.faults source.old source.new) result) }
     ensures complete { IfSome (command_of (map string_bytes words.now.items)) (λ c.
-        IfTold (side S.left S.faults source.old source.new) (Completes (work c) (record {
+        TaskCompletes (task c) (record {
           source = side S.left S.faults source.old source.new;
           sink = side K.held K.faults sink.old sink.new;
-        }) result)) }
+        }) result) }
+    // What was written is told by the trace of one script, of which each step is right: each frame,
+    // each surface and each refusal.
+    ensures headline { result ≡ Status.Done → IfSome (command_of (map string_bytes words.now.items)) (λ c.
+        Tells c (record {
+          source = side S.left S.faults source.old source.new;
+          sink = side K.held K.faults sink.old sink.new;
+        })) }
     ensures later_read { S.faults source.old ≤ S.faults source.new }
     ensures later_write { K.faults sink.old ≤ K.faults sink.new }
 {
-    match command_of(words) {
-        Some(command) => perform(alloc, command, source, sink),
-        None => Status::BadWords,
+    match command_of(alloc, words) {
+        Ok(Some(command)) => perform(alloc, command, source, sink),
+        Ok(None) => Status::BadWords,
+        Err(OutOfMemory) => Status::OutOfMemory,
     }
 }

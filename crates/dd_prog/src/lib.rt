@@ -3,10 +3,13 @@
 
 mod arguments;
 mod command;
+mod command_line;
 mod fault;
 mod keeping;
 mod laws;
+mod making;
 mod options;
+mod output;
 mod program;
 mod reading;
 mod recording;
@@ -17,7 +20,10 @@ mod viewing;
 
 pub use arguments::{WordsFault, words};
 pub use command::{Command, MAX_FRAME, plain};
-pub use laws::{records_are_read, records_are_viewed, records_play_back, records_show_frames};
+pub use laws::{
+    made_scripts_are_granted, made_scripts_are_readable, records_are_read, records_are_viewed,
+    records_play_back, records_show_frames,
+};
 pub use program::run;
 pub use reading::{MAX_RECORD_BYTES, MAX_SCRIPT_BYTES};
 pub use reporting::report;

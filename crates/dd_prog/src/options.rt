@@ -1,7 +1,8 @@
 //! An option of a command: its name, and the number that it is given.
 
-ghost use Rattle.std.specs.Prelude.{◌≡◌, ◌≤◌, map, option_map, IfSome, string_bytes};
-ghost use Rattle.dd_prog.specs.Options.{begins_from_1, behind, value_given, numeral, up_to, number_given};
+ghost use Rattle.std.specs.Prelude.{◌≡◌, map, option_map, string_bytes};
+ghost use Rattle.dd_prog.specs.Options.{behind, value_given, number_given};
+ghost use Rattle.dd_prog.specs.Options.{has_no_leading_0, numeral, within};
 
 /// What stands in a word behind a front, where it begins so.
 fn behind<'w>(front: &str, word: &'w str) -> Option<&'w str>
@@ -22,38 +23,36 @@ fn value_given<'w>(name: &str, words: &'w [String]) -> Option<&'w str>
     }
 }
 
-/// Whether a word begins with a digit from 1 to 9.
-fn begins_from_1(word: &str) -> bool
-    ensures { result ≡ begins_from_1 word.now }
+/// Whether a word is `0`, or begins with a digit from 1 to 9.
+fn has_no_leading_0(word: &str) -> bool
+    ensures { result ≡ has_no_leading_0 word.now }
 {
-    matches!(word.as_bytes(), [b'1'..=b'9', ..])
+    word == "0" || matches!(word.as_bytes(), [b'1'..=b'9', ..])
 }
 
-/// A number, where it is at most `most`.
-fn up_to(most: u32, number: Option<u32>) -> Option<u32>
-    ensures { result ≡ up_to most number }
+/// A number, where it is from `least` to `most`.
+fn within(least: u32, most: u32, number: Option<u32>) -> Option<u32>
+    ensures { result ≡ within least most number }
 {
     match number {
-        Some(n) if n <= most => Some(n),
+        Some(n) if least <= n && n <= most => Some(n),
         _ => None,
     }
 }
 
-/// The number that a word writes, from 1, where it is at most `most`.
-fn numeral(most: u32, word: &str) -> Option<u32>
-    ensures value { result ≡ up_to most (numeral word.now) }
-    ensures from_1 { IfSome result (λ n. 1 ≤ n) }
+/// The number that a word writes, where it is from `least` to `most`.
+pub(crate) fn numeral(least: u32, most: u32, word: &str) -> Option<u32>
+    ensures { result ≡ within least most (numeral word.now) }
 {
-    if !begins_from_1(word) {
+    if !has_no_leading_0(word) {
         return None;
     }
-    up_to(most, word.parse::<u32>().ok())
+    within(least, most, word.parse::<u32>().ok())
 }
 
-/// The number, at most `most`, that the words give to an option.
-pub(crate) fn number_given(name: &str, most: u32, words: &[String]) -> Option<u32>
-    ensures value { result ≡ number_given name.now most (map string_bytes words.now) }
-    ensures from_1 { IfSome result (λ n. 1 ≤ n) }
+/// The number, from `least` to `most`, that the words give to an option.
+pub(crate) fn number_given(name: &str, least: u32, most: u32, words: &[String]) -> Option<u32>
+    ensures { result ≡ number_given name.now least most (map string_bytes words.now) }
 {
-    numeral(most, value_given(name, words)?)
+    numeral(least, most, value_given(name, words)?)
 }

@@ -2,7 +2,7 @@
 
 ghost use Rattle.std.specs.Prelude.{◌≤◌, ◌<◌, ◌-◌, ◌^◌, length, IfOk};
 ghost use Rattle.dd_script.specs.Script.{IsRunnable};
-ghost use Rattle.dd_prog.specs.Commands.{work};
+ghost use Rattle.dd_prog.specs.Commands.{replay_work};
 ghost use Rattle.dd_prog.specs.Exchange.{side, IfTold};
 ghost use Rattle.dd_prog.specs.Outcome.{Reads, FitsRead};
 
@@ -21,10 +21,10 @@ pub const MAX_RECORD_BYTES: u64 = 1_073_741_824;
 
 /// Reads the input to its end, and the script that it is: it has fewer steps than the input bytes.
 pub(crate) fn read_script<S: Source>(alloc: Global, source: &mut S) -> Result<Script, InputFault>
-    ensures reads { Reads (work Command.Replay) (side S.left S.faults source.old source.new) result }
+    ensures reads { Reads replay_work (side S.left S.faults source.old source.new) result }
     ensures whole { IfOk result (λ s. IsRunnable s) }
     ensures count { IfOk result (λ s. length s.steps < 2 ^ 32 - 1) }
-    ensures told { IfTold (side S.left S.faults source.old source.new) (FitsRead (work Command.Replay) result) }
+    ensures told { IfTold (side S.left S.faults source.old source.new) (FitsRead replay_work result) }
     ensures later { S.faults source.old ≤ S.faults source.new }
 {
     let bytes = read_up_to(alloc, source, MAX_SCRIPT_BYTES)?;

@@ -5,7 +5,7 @@ ghost use Rattle.std.specs.List.{AllByRecursion, flat_map};
 ghost use Rattle.dd_record.specs.Writing.{magic, opening_bytes, chunk_bytes, end_bytes, record_bytes};
 ghost use Rattle.dd_station.specs.Run.{IsOfClient, next};
 ghost use Rattle.dd_script.specs.Script.{IsRunnable};
-ghost use Rattle.dd_prog.specs.Commands.{work};
+ghost use Rattle.dd_prog.specs.Commands.{record_work};
 ghost use Rattle.dd_prog.specs.Exchange.{side, IfTold};
 ghost use Rattle.dd_prog.specs.Leaving.{shown_bytes, left_by, bytes_left};
 ghost use Rattle.dd_prog.specs.Outcome.{Writes, Reads, FitsRead, Ends, Fits, status_of_input};
@@ -172,11 +172,11 @@ fn read_script_of<S: Source>(
     source: &mut S,
     client: u32,
 ) -> Result<Script, InputFault>
-    ensures reads { Reads (work (Command.Record client)) (side S.left S.faults source.old source.new) result }
+    ensures reads { Reads (record_work client) (side S.left S.faults source.old source.new) result }
     ensures whole { IfOk result (λ s. IsRunnable s) }
     ensures count { IfOk result (λ s. length s.steps < 2 ^ 32 - 1) }
     ensures told { IfTold (side S.left S.faults source.old source.new)
-        (FitsRead (work (Command.Record client)) result) }
+        (FitsRead (record_work client) result) }
     ensures later { S.faults source.old ≤ S.faults source.new }
 {
     let script = read_script(alloc, source)?;
@@ -193,11 +193,11 @@ pub(crate) fn record<S: Source, K: Sink>(
     source: &mut S,
     sink: &mut K,
 ) -> Status
-    ensures outcome { Ends (work (Command.Record client)) (record {
+    ensures outcome { Ends (record_work client) (record {
       source = side S.left S.faults source.old source.new;
       sink = side K.held K.faults sink.old sink.new;
     }) result }
-    ensures told { IfTold (side S.left S.faults source.old source.new) (Fits (work (Command.Record client)) result) }
+    ensures told { IfTold (side S.left S.faults source.old source.new) (Fits (record_work client) result) }
     ensures later_read { S.faults source.old ≤ S.faults source.new }
     ensures later_write { K.faults sink.old ≤ K.faults sink.new }
 {

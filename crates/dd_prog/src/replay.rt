@@ -5,7 +5,7 @@ ghost use Rattle.std.specs.List.{AllByRecursion};
 ghost use Rattle.dd_station.specs.Run.{IsOfClient, next, answers, run};
 ghost use Rattle.dd_script.specs.Script.{IsRunnable};
 ghost use Rattle.dd_script.specs.Texts.{line, text};
-ghost use Rattle.dd_prog.specs.Commands.{work};
+ghost use Rattle.dd_prog.specs.Commands.{replay_work};
 ghost use Rattle.dd_prog.specs.Exchange.{side, IfTold};
 ghost use Rattle.dd_prog.specs.Keeping.{Adds};
 ghost use Rattle.dd_prog.specs.Outcome.{Writes, Ends, Fits, status_of_run, status_of_input};
@@ -101,7 +101,7 @@ pub(crate) fn status_of_run(ended: Result<(), RunFault>) -> Status
 
 /// Why no script was read, as a status.
 pub(crate) fn status_of_input(fault: InputFault) -> Status
-    ensures { result ≡ status_of_input (work Command.Replay) fault }
+    ensures { result ≡ status_of_input replay_work fault }
 {
     match fault {
         InputFault::TooLong => Status::TooLong,
@@ -113,11 +113,11 @@ pub(crate) fn status_of_input(fault: InputFault) -> Status
 
 /// Reads a script, runs it, and writes its answers.
 pub(crate) fn replay<S: Source, K: Sink>(alloc: Global, source: &mut S, sink: &mut K) -> Status
-    ensures outcome { Ends (work Command.Replay) (record {
+    ensures outcome { Ends replay_work (record {
       source = side S.left S.faults source.old source.new;
       sink = side K.held K.faults sink.old sink.new;
     }) result }
-    ensures told { IfTold (side S.left S.faults source.old source.new) (Fits (work Command.Replay) result) }
+    ensures told { IfTold (side S.left S.faults source.old source.new) (Fits replay_work result) }
     ensures later_read { S.faults source.old ≤ S.faults source.new }
     ensures later_write { K.faults sink.old ≤ K.faults sink.new }
 {

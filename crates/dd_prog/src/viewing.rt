@@ -4,16 +4,17 @@ ghost use Rattle.std.specs.Prelude.{◌≡◌, ◌+◌, ◌-◌, ◌^◌, ◌≤
 ghost use Rattle.dd_io.specs.Causes.{Rose};
 ghost use Rattle.dd_io.specs.Transfer.{GivesPiece};
 ghost use Rattle.dd_view.specs.Player.{new_reader, bytes_come, reader_of, finish_answer};
-ghost use Rattle.dd_prog.specs.Commands.{work};
+ghost use Rattle.dd_prog.specs.Commands.{view_work};
 ghost use Rattle.dd_prog.specs.Exchange.{side, IfTold};
 ghost use Rattle.dd_prog.specs.Outcome.{Ends, Fits, status_of_input};
-ghost use Rattle.dd_prog.specs.Viewing.{Fed, FedAll, Pictures, Pictured, Texts, WroteText};
+ghost use Rattle.dd_prog.specs.Viewing.{Fed, FedAll, Pictures, Pictured, Texts};
 
 use crate::command::Command;
 use crate::fault::InputFault;
+use crate::output::write_text;
 use crate::reading::MAX_RECORD_BYTES;
 use crate::status::Status;
-use dd_io::{Bytes, CHUNK, Failed, Sink, Source, read_piece, write_all};
+use dd_io::{Bytes, CHUNK, Failed, Sink, Source, read_piece};
 use dd_record::RecordFault;
 use dd_view::{Player, ppm};
 use std::alloc::Global;
@@ -105,7 +106,7 @@ fn record_text(
 /// Reads the input to its end, and makes the text of the picture that it shows after a frame.
 fn shown_text<S: Source>(alloc: Global, frame: u32, source: &mut S) -> Result<Bytes, InputFault>
     requires { 1 ≤ frame }
-    ensures texts { Texts (work (Command.View frame)) (side S.left S.faults source.old source.new) result }
+    ensures texts { Texts (view_work frame) (side S.left S.faults source.old source.new) result }
     ensures later { S.faults source.old ≤ S.faults source.new }
 {
     let mut player = Player::new(alloc, frame)?;
@@ -114,20 +115,9 @@ fn shown_text<S: Source>(alloc: Global, frame: u32, source: &mut S) -> Result<By
     record_text(alloc, &mut player, fault)
 }
 
-/// Writes a text, and tells how that ended.
-fn write_text<K: Sink>(text: &[u8], sink: &mut K) -> Status
-    ensures wrote { WroteText (side K.held K.faults sink.old sink.new) text.now result }
-    ensures later { K.faults sink.old ≤ K.faults sink.new }
-{
-    match write_all(sink, text) {
-        Ok(()) => Status::Done,
-        Err(_) => Status::WriteFault,
-    }
-}
-
 /// Why no record was read, as a status.
 fn status_of_input(frame: u32, fault: InputFault) -> Status
-    ensures { result ≡ status_of_input (work (Command.View frame)) fault }
+    ensures { result ≡ status_of_input (view_work frame) fault }
 {
     let _ = frame;
     match fault {
@@ -146,11 +136,11 @@ pub(crate) fn view<S: Source, K: Sink>(
     sink: &mut K,
 ) -> Status
     requires { 1 ≤ frame }
-    ensures outcome { Ends (work (Command.View frame)) (record {
+    ensures outcome { Ends (view_work frame) (record {
       source = side S.left S.faults source.old source.new;
       sink = side K.held K.faults sink.old sink.new;
     }) result }
-    ensures told { IfTold (side S.left S.faults source.old source.new) (Fits (work (Command.View frame)) result) }
+    ensures told { IfTold (side S.left S.faults source.old source.new) (Fits (view_work frame) result) }
     ensures later_read { S.faults source.old ≤ S.faults source.new }
     ensures later_write { K.faults sink.old ≤ K.faults sink.new }
 {

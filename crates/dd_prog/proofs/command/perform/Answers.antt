@@ -1,4 +1,4 @@
--- Each command ends as its work says.
+-- Each command ends as its task says.
 use Rattle.dd_prog.proofs.command.perform.Goals as goal
 
 pub returns-in-Replay-clause-outcome : goal.returns-in-Replay-clause-outcome
