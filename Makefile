@@ -34,8 +34,9 @@ cases:
 	tools/gather_cases > crates/ddup_cases/stdin
 	tools/gather_cases --wanted > crates/ddup_cases/stdout
 
-# Looks whether the paths, calls, clauses and definitions that the pages cite exist, and whether the
-# stored run of ddup_cases has the cases of examples/.
+# Looks whether the paths, calls, clauses and definitions that the pages cite exist, whether manual page and completions
+# tell the same words, whether bin/ddup prints what the pages show, and whether the stored run of ddup_cases has the
+# cases of examples/.
 docs:
 	tools/check_docs
 	tools/gather_cases | cmp - crates/ddup_cases/stdin
