@@ -1,0 +1,13 @@
+pub mod Prefixes
+pub mod Adding
+pub mod Listed
+pub mod Counts
+pub mod Painting
+pub mod Calls
+pub mod Standing
+pub mod Openings
+pub mod Clients
+pub mod Boards
+pub mod Endings
+pub mod Gathering
+pub mod Copying

@@ -1,0 +1,8 @@
+-- The shares stay together.
+use Rattle.std.proofs.Common.{◌≡◌}
+use Rattle.dd_board.proofs.screen.Screen+L.list.Given as goal
+
+abbrev pub invariant-loop : goal.invariant-loop
+invariant-loop g l =
+    (goal.iterator-loop g).can_next l.iterator' × (goal.iterator-loop g).is_finite l.iterator'
+    × (l.share.parts ≡ l.initial.share.parts) × (l.share.amount ≡ l.initial.share.amount)

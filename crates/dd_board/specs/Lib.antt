@@ -1,0 +1,17 @@
+pub mod Lists
+pub mod Rules
+pub mod Press
+pub mod Painting
+pub mod Seats
+pub mod Drawing
+pub mod Clients
+pub mod Holding
+pub mod Looking
+pub mod Opening
+pub mod Openings
+pub mod Looked
+pub mod Boards
+pub mod Unnamed
+pub mod Ending
+pub mod Listing
+pub mod Copied

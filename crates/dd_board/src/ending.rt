@@ -1,0 +1,47 @@
+//! The end of the list.
+
+ghost use Rattle.std.specs.Prelude.{◌≡◌};
+ghost use Rattle.dd_log.specs.History.{before_end as ends_after};
+ghost use Rattle.dd_board.specs.Press.{IsEnding};
+
+use crate::named::Named;
+use crate::painter::{Painter, PainterOf};
+use crate::press::Printed;
+use dd_log::{Entry, Event, Log};
+use std::sync::Wait;
+
+/// How many entries stand before the end.
+fn before_end(log: &Log) -> u64
+    ensures { result ≡ ends_after log.now.entries }
+{
+    let len = log.len();
+    if log.ended() { len - 1 } else { len }
+}
+
+impl<L: Named> Painter<L> {
+    /// The list with its end, once so many entries stand before it.
+    pub(crate) fn end<R: Wait>(self, rt: &R, seats: u32, at_least: u64) -> (Painter<L>, Printed<L>)
+        requires { seats ≡ L.parts }
+        ensures { IsEnding result.1 L.parts at_least }
+    {
+        let _front = self.told().front();
+        if before_end(self.log()) < at_least {
+            return (self, Printed::Late);
+        }
+        if self.log().ended() {
+            let told = self.told().again();
+            return (self, Printed::Made(told));
+        }
+        if self.log().last_step(seats) >= 1 {
+            return (self, Printed::Late);
+        }
+        let entry = Entry {
+            actor: seats,
+            step: 1,
+            event: Event::End,
+        };
+        let PainterOf { press, book } = self;
+        let (press, printed) = press.print(rt, &entry);
+        (PainterOf { press, book }, printed)
+    }
+}

@@ -1,0 +1,123 @@
+//! Openings and closings on the locked list.
+
+ghost use Rattle.std.specs.Prelude.{◌≡◌, Some, IsTrue, MatchOption};
+ghost use Rattle.dd_log.specs.declared.events.Event.TheVariants.{Closed};
+ghost use Rattle.dd_log.specs.Desk.{finds_slot};
+ghost use Rattle.dd_log.specs.History.{desk};
+ghost use Rattle.dd_board.specs.Lists.{listed};
+ghost use Rattle.dd_board.specs.Opening.{IsOpening, IsClosing};
+ghost use Rattle.dd_board.specs.Painting.{attempt_of as went};
+
+use crate::actor::Actor;
+use crate::holding::Holding;
+use crate::named::Named;
+use crate::painter::{Attempt, Entering, Painter};
+use dd_dup::Dup;
+use dd_log::{CloseRefusal, Entry, Event, OpenRefusal};
+use dd_table::{may_close, may_open};
+use std::alloc::Global;
+use std::sync::Wait;
+
+/// How a call went, once the list fitted it.
+fn attempt_of<A: Drop>(entering: Entering, place: u64, answer: A) -> Attempt<A>
+    ensures { result ≡ went entering place answer }
+{
+    match entering {
+        Entering::Made => Attempt::Done { place, answer },
+        Entering::Late => Attempt::Late,
+        Entering::NoMemory => Attempt::NoMemory,
+    }
+}
+
+impl<L: Named> Painter<L> {
+    /// Opens a duplicator for a client's application.
+    pub(crate) fn open<R: Wait>(
+        self,
+        rt: &R,
+        alloc: Global,
+        actor: &mut Actor<L>,
+        app: u32,
+        step: u32,
+    ) -> (Painter<L>, Attempt<Result<Holding, OpenRefusal>>)
+        ensures { IsOpening result.1 L.spec actor.old actor.new app step }
+    {
+        if !self.fits(actor, step) {
+            return (self, Attempt::Late);
+        }
+        let place = self.told().front();
+        let slot = match may_open(self.log(), app) {
+            Ok(slot) => slot,
+            Err(cause) => {
+                actor.see(self.told().again());
+                return (
+                    self,
+                    Attempt::Done {
+                        place,
+                        answer: Err(cause),
+                    },
+                );
+            }
+        };
+        let Ok(dup) = Dup::start(alloc, self.log(), place) else {
+            return (self, Attempt::NoMemory);
+        };
+        let entry = Entry {
+            actor: actor.number(),
+            step,
+            event: Event::Opened { slot, app },
+        };
+        let (painter, entering) = self.enter(rt, actor, &entry);
+        (
+            painter,
+            attempt_of(entering, place, Ok(Holding { dup, slot })),
+        )
+    }
+
+    /// Whether a slot, where there is one, is open for an application.
+    fn has_slot(&self, app: u32, slot: Option<u32>) -> bool
+        ensures { IsTrue result → MatchOption slot (Unit {0})
+            (λ s. IsTrue (finds_slot (desk (listed L.spec self.now)).slots (Closed s))) }
+    {
+        match slot {
+            None => true,
+            Some(slot) => self.log().app_of(slot) == Some(app),
+        }
+    }
+
+    /// Closes the duplicator of a client's application, where it has one.
+    pub(crate) fn close<R: Wait>(
+        self,
+        rt: &R,
+        actor: &mut Actor<L>,
+        app: u32,
+        slot: Option<u32>,
+        step: u32,
+    ) -> (Painter<L>, Attempt<Result<u32, CloseRefusal>>)
+        ensures { IsClosing result.1 L.spec actor.old actor.new slot step }
+    {
+        if !self.fits(actor, step) || !self.has_slot(app, slot) {
+            return (self, Attempt::Late);
+        }
+        let place = self.told().front();
+        let slot = match may_close(self.log(), slot) {
+            Ok(slot) => slot,
+            Err(cause) => {
+                actor.see(self.told().again());
+                return (
+                    self,
+                    Attempt::Done {
+                        place,
+                        answer: Err(cause),
+                    },
+                );
+            }
+        };
+        let entry = Entry {
+            actor: actor.number(),
+            step,
+            event: Event::Closed { slot },
+        };
+        let (painter, entering) = self.enter(rt, actor, &entry);
+        (painter, attempt_of(entering, place, Ok(slot)))
+    }
+}
