@@ -15,7 +15,7 @@ demo:
 	fi
 
 # Proves every crate, lowest first and over what earlier checks kept, and leaves the program as bin/ddup once its answers to the
-# cases of examples/ are the right ones.
+# cases of examples/ are the right ones, and board_speed beside it.
 build:
 	$(RT) all check
 	mkdir -p bin
@@ -24,6 +24,10 @@ build:
 	rm bin/answers.txt
 	cp crates/ddup/out/ddup bin/ddup
 	tools/run_cases bin/ddup
+	cd crates/board_speed && $(RT) run -- look 2 1000 > ../../bin/line.txt
+	cmp bin/line.txt crates/board_speed/stdout
+	rm bin/line.txt
+	cp crates/board_speed/out/board_speed bin/board_speed
 
 # Proves from nothing each crate that it hasn't passed on this machine, tries the wrong bodies, and runs the tests and the programs.
 test:
@@ -41,6 +45,8 @@ docs:
 	tools/check_docs
 	tools/gather_cases | cmp - crates/ddup_cases/stdin
 
-# Measures bin/ddup, as make build left it; docs/SPEED.md says what. Nothing in the gate rests on it.
+# Measures bin/ddup and bin/board_speed, as make build left them; docs/SPEED.md says what. Nothing in the gate rests on
+# it.
 bench:
 	tools/bench bin/ddup
+	tools/bench_board bin/board_speed
