@@ -1,7 +1,6 @@
 //! A board: the screen and the seats.
 
 ghost use Rattle.std.specs.Prelude.{◌≡◌, ◌≤◌, [], length, IfOk};
-ghost use Rattle.dd_log.specs.declared.events.TheConstants.{MAX_CAPACITY};
 ghost use Rattle.dd_board.specs.Boards.{seat_of as seat_from, seats_from};
 ghost use Rattle.dd_board.specs.Seats.{fresh_seat};
 
@@ -13,13 +12,11 @@ use crate::press::Press;
 use crate::published::{Op, Published, Sheet};
 use crate::screen::ScreenOf;
 use crate::told::Told;
-use crate::unnamed::Unnamed;
-use dd_log::{Role, Spec};
+use dd_log::Role;
 use left_right::Absorb;
 use std::alloc::{AllocError, Global};
-use std::marker::Brand;
 use std::sync::Wait;
-use std::sync::ledger::{Blank, Share};
+use std::sync::ledger::Share;
 
 /// The most seats of a board: 16 drawers and 16 clients.
 pub const MAX_SEATS: usize = 32;
@@ -39,30 +36,6 @@ pub struct BoardOf<L: Named, T: Absorb<Op<L>, State = ()> + Sheet + Drop> {
 
 /// A screen, and its seats in the order of their roles.
 pub type Board<L> = BoardOf<L, Published<L>>;
-
-impl Board<Brand> {
-    /// The parts of a board that is begun with a spec, and has a seat for each role. It has no name
-    /// yet. The ledger is the one of a blank that has a part for each seat.
-    pub fn start<R: Wait>(
-        _rt: &R,
-        alloc: Global,
-        blank: Blank,
-        spec: Spec,
-        roles: &[Role],
-    ) -> Result<Unnamed, AllocError>
-        requires some { 1 ≤ spec.capacity }
-        requires few { spec.capacity ≤ MAX_CAPACITY }
-        requires seat { 1 ≤ length roles.now }
-        requires seats { length roles.now ≤ MAX_SEATS }
-        requires parts { blank.parts ≡ length roles.now }
-        ensures spec { IfOk result (λ u. u.spec ≡ spec) }
-        ensures roles { IfOk result (λ u. u.roles ≡ roles.now) }
-        ensures ledger { IfOk result (λ u. u.ledger ≡ blank.name) }
-        ensures parts { IfOk result (λ u. u.parts ≡ blank.parts) }
-    {
-        Unnamed::start(alloc, blank, spec, roles)
-    }
-}
 
 /// The seat of a role.
 fn seat_of<L: Named, R: Wait>(rt: &R, press: &Press<L>, actor: Actor<L>, role: Role) -> Seat<L>

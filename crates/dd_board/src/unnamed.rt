@@ -16,7 +16,7 @@ use dd_log::{Entry, Log, Role, Spec};
 use left_right::writer::Writer;
 use logbook::{Seen, Start, Word};
 use std::alloc::{AllocError, Global};
-use std::marker::{Model, PhantomData};
+use std::marker::{Brand, Model, PhantomData};
 use std::sync::Wait;
 use std::sync::ledger::Blank;
 
@@ -41,10 +41,11 @@ impl Model for Unnamed {
     ghost invariant = { IsBlank };
 }
 
-impl Unnamed {
-    /// The parts of a board that is begun with a spec, and has a seat for each role. The ledger is
-    /// the one of a blank that has a part for each seat.
-    pub(crate) fn start(
+impl Board<Brand> {
+    /// The parts of a board that is begun with a spec, and has a seat for each role. It has no name
+    /// yet. The ledger is the one of a blank that has a part for each seat.
+    pub fn start<R: Wait>(
+        _rt: &R,
         alloc: Global,
         blank: Blank,
         spec: Spec,
@@ -73,7 +74,9 @@ impl Unnamed {
             blank,
         })
     }
+}
 
+impl Unnamed {
     /// The board under a name, with fresh seats.
     pub fn named<R: Wait, L: Named>(self, rt: &R) -> Result<Board<L>, AllocError>
         requires ledger { self.ledger ≡ L.name }
