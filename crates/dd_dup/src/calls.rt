@@ -1,12 +1,13 @@
 //! What a duplicator answers to a call, with copies of what a frame lends.
 
-ghost use Rattle.std.specs.Prelude.{◌≡◌, ◌≤◌, IfOk, OnOk, OnErr, IsOk, IsSome, length};
+ghost use Rattle.std.specs.Prelude.{◌≡◌, ◌≤◌, Ok, IfOk, OnOk, OnErr, IsOk, IsSome, length, false};
 ghost use Rattle.dd_geom.specs.Grid.{rows};
 ghost use Rattle.dd_pointer.specs.Shape.{info_of};
 ghost use Rattle.dd_coal.specs.declared.coalescing.TheConstants.{MAX_RECTS};
 ghost use Rattle.dd_acc.specs.declared.interval.TheConstants.{MAX_MOVES};
-ghost use Rattle.dd_dup.specs.News.{held_shape};
-ghost use Rattle.dd_dup.specs.Reply.{acquire_reply, acquire_memory, acquire_answer, release_reply, release_memory, release_answer, held_memory, moves_reply, dirty_reply, shape_reply, buffer_answer, shape_answer, in_buffer, held_shape_info, filled_buffer, surface_reply, desc_reply, IsBounded};
+ghost use Rattle.dd_log.specs.History.{any_begins};
+ghost use Rattle.dd_dup.specs.News.{news, held_shape};
+ghost use Rattle.dd_dup.specs.Reply.{granted, acquire_reply, acquire_memory, acquire_answer, release_reply, release_memory, release_answer, held_memory, moves_reply, dirty_reply, shape_reply, buffer_answer, shape_answer, in_buffer, held_shape_info, filled_buffer, surface_reply, desc_reply, IsBounded};
 ghost use Rattle.dd_dup.specs.Stands.{Stands};
 
 use crate::duplicator::Dup;
@@ -64,7 +65,28 @@ fn refused(refusal: DupRefusal) -> Answer
     }
 }
 
-/// Acquires a frame. All memory is taken before the duplicator changes.
+/// Acquires a frame where nothing refuses it. All memory is taken before the duplicator changes.
+///
+/// A call of its own, since what is new has its room on the stack: a refused acquire doesn't clear it.
+#[inline(never)]
+fn acquire_new(alloc: Global, dup: &mut Dup, log: &Log) -> Result<Answer, AllocError>
+    requires stands { Stands dup.old log.now }
+    requires begins { any_begins (news log.now dup.old.memory.mark) ≡ false }
+    requires granted { granted dup.old.memory log.now (tt {0}) ≡ Ok tt }
+    ensures answer { IfOk result (λ a. a ≡ acquire_answer (acquire_reply dup.old.memory log.now)) }
+    ensures bounded { IfOk result (λ a. IsBounded a) }
+    ensures memory { OnOk result (dup.new.memory ≡ acquire_memory dup.old.memory log.now) }
+    ensures err { OnErr result (dup.new ≡ dup.old) }
+    ensures wants { OnErr result (IsOk (acquire_reply dup.old.memory log.now)) }
+    ensures stands { Stands dup.new log.now }
+{
+    let news = dup.gather(log)?;
+    let (moves, dirt) = lists_of(alloc, &news)?;
+    let info = dup.hold(log, news);
+    Ok(Answer::Frame { info, moves, dirt })
+}
+
+/// Acquires a frame.
 pub(crate) fn acquire(alloc: Global, dup: &mut Dup, log: &Log) -> Result<Answer, AllocError>
     requires { Stands dup.old log.now }
     ensures answer { IfOk result (λ a. a ≡ acquire_answer (acquire_reply dup.old.memory log.now)) }
@@ -74,13 +96,8 @@ pub(crate) fn acquire(alloc: Global, dup: &mut Dup, log: &Log) -> Result<Answer,
     ensures wants { OnErr result (IsOk (acquire_reply dup.old.memory log.now)) }
     ensures stands { Stands dup.new log.now }
 {
-    match dup.next_news(log) {
-        Ok(news) => {
-            let (moves, dirt) = lists_of(alloc, &news)?;
-            let info = dup.hold(log, news);
-            Ok(Answer::Frame { info, moves, dirt })
-        }
-        Err(DupRefusal::OutOfMemory) => Err(AllocError),
+    match dup.check_new(log) {
+        Ok(()) => acquire_new(alloc, dup, log),
         Err(refusal) => {
             dup.refuse(log, refusal);
             Ok(refused(refusal))

@@ -62,7 +62,7 @@ impl Dup {
     ghost use Rattle.dd_log.specs.History.{desk, legal, any_begins};
     ghost use Rattle.dd_log.specs.Picture.{view};
     ghost use Rattle.dd_dup.specs.News.{news, news_since, frame, held_info, held_moves, held_dirt, held_shape, picture_since, shape_bytes};
-    ghost use Rattle.dd_dup.specs.Reply.{fresh_memory, granted, given_news, is_lost, is_new, held_reply, release_reply, moves_reply, dirty_reply, shape_reply, reply, call_takes_memory, Answers, IsNewsOr, IsNotShort, IsBounded};
+    ghost use Rattle.dd_dup.specs.Reply.{fresh_memory, granted, is_lost, is_new, held_reply, release_reply, moves_reply, dirty_reply, shape_reply, reply, call_takes_memory, Answers, IsNewsOr, IsNotShort, IsBounded};
     ghost use Rattle.dd_dup.specs.Duplicator.{holding, released, lent, IsRefused, IsRefusedBy, IsLookedAt, HeldRebuilds, IsReached, IsExactSince};
     ghost use Rattle.dd_dup.specs.Stands.{Stands, StandsOnceOpened};
     ghost use Rattle.dd_dup.specs.Veil.{HoldsVeil, LendsVeil};
@@ -121,17 +121,30 @@ impl Dup {
         log.presented_since(self.mark) | log.pointed_since(self.pointer_mark)
     }
 
-    /// What is new, which a frame that is granted tells. It takes all memory that an acquire takes,
-    /// and none where nothing is new.
-    fn look(&self, log: &Log) -> Result<News, DupRefusal>
-        requires stands { Stands self.now log.now }
-        requires begins { any_begins (news log.now self.now.memory.mark) ≡ false }
-        ensures { IsNewsOr result (given_news self.now.memory log.now
-            (news_since log.now self.now.memory.mark self.now.memory.pointer_mark)) }
+    /// Why an acquire is refused, where it is. It takes no memory.
+    pub(crate) fn check_new(&self, log: &Log) -> Result<(), DupRefusal>
+        requires { Stands self.now log.now }
+        ensures answer { result ≡ granted self.now.memory log.now tt }
+        ensures begins { OnOk result (any_begins (news log.now self.now.memory.mark) ≡ false) }
     {
+        if self.is_lost(log) {
+            return Err(DupRefusal::AccessLost);
+        }
+        if self.held.is_some() {
+            return Err(DupRefusal::InvalidCall);
+        }
         if !self.has_news(log) {
             return Err(DupRefusal::WaitTimeout);
         }
+        Ok(())
+    }
+
+    /// What is new. It takes all memory that an acquire takes.
+    pub(crate) fn gather(&self, log: &Log) -> Result<News, AllocError>
+        requires stands { Stands self.now log.now }
+        requires begins { any_begins (news log.now self.now.memory.mark) ≡ false }
+        ensures { IfOk result (λ n. n ≡ news_since log.now self.now.memory.mark self.now.memory.pointer_mark) }
+    {
         let picture = self.news_of_picture(log)?;
         let pointer = point(log, self.pointer_mark)?;
         Ok(News { picture, pointer })
@@ -144,13 +157,8 @@ impl Dup {
         ensures { IsNewsOr result (granted self.now.memory log.now
             (news_since log.now self.now.memory.mark self.now.memory.pointer_mark)) }
     {
-        if self.is_lost(log) {
-            return Err(DupRefusal::AccessLost);
-        }
-        if self.held.is_some() {
-            return Err(DupRefusal::InvalidCall);
-        }
-        self.look(log)
+        self.check_new(log)?;
+        Ok(self.gather(log)?)
     }
 
     /// Takes the frame of what is new.
@@ -209,6 +217,28 @@ impl Dup {
         }
     }
 
+    /// Acquires a frame where nothing refuses it.
+    ///
+    /// A call of its own, since what is new has its room on the stack: a refused acquire doesn't clear it.
+    #[inline(never)]
+    fn acquire_new(&mut self, log: &Log) -> Result<FrameInfo, DupRefusal>
+        requires stands { Stands self.old log.now }
+        requires begins { any_begins (news log.now self.old.memory.mark) ≡ false }
+        requires granted { granted self.old.memory log.now (tt {0}) ≡ Ok tt }
+        ensures answer { Answers result self.old.memory self.new.memory log.now }
+        ensures refused { IsRefused result self.old self.new }
+        ensures stands { Stands self.new log.now }
+        ensures short { IfOk result (λ info. info.meta_size ≤ MAX_METADATA) }
+        ensures surface { OnOk result (self.new.surface ≡ view log.now) }
+        ensures rebuilt { OnOk result (HeldRebuilds self.old.surface self.new.memory.held self.new.surface) }
+        ensures reached { OnOk result (IsReached self.new.memory.held (news log.now self.old.memory.mark)) }
+        ensures honest { OnOk result (IsExactSince self.new.memory.held log.now self.old.memory.mark) }
+        ensures veiled { OnOk result (HoldsVeil self.old self.new log.now) }
+    {
+        let next = self.gather(log)?;
+        Ok(self.hold(log, next))
+    }
+
     /// Acquires a frame of what is new (AcquireNextFrame).
     ///
     /// A duplicator that is lost is AccessLost, and from then on holds no frame; a frame that is held is
@@ -231,8 +261,8 @@ impl Dup {
         // Nothing of what covers hide is in them: they are the frame and the surface of the veil.
         ensures veiled { OnOk result (HoldsVeil self.old self.new log.now) }
     {
-        match self.next_news(log) {
-            Ok(next) => Ok(self.hold(log, next)),
+        match self.check_new(log) {
+            Ok(()) => self.acquire_new(log),
             Err(cause) => {
                 self.refuse(log, cause);
                 Err(cause)
