@@ -64,6 +64,9 @@ pub struct Tried<L: Named> {
 }
 
 /// Asks a client's duplicator, where it has one.
+///
+/// A call of its own, so that its answer is written once, before the board is left.
+#[inline(never)]
 fn ask_any(held: &mut Option<Holding>, log: &Log, call: Call, buffer: &mut [u8]) -> LookAnswer
     requires { MayHold held.old log.now }
     ensures answer { IsLook result call (memory (held_dup held.old)) (memory (held_dup held.new))

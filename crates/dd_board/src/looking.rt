@@ -2,7 +2,7 @@
 
 ghost use Rattle.std.specs.Prelude.{◌≡◌};
 ghost use Rattle.dd_dup.specs.Stands.{Stands};
-ghost use Rattle.dd_board.specs.Looking.{frame_look, release_look, buffer_look, IsAcquired, IsReply};
+ghost use Rattle.dd_board.specs.Looking.{release_look, buffer_look, IsAcquired, IsReply};
 
 use dd_dup::{Dup, DupRefusal, FrameInfo};
 use dd_log::Log;
@@ -43,16 +43,6 @@ pub struct Looked {
     pub answer: LookAnswer,
 }
 
-/// A frame as an answer.
-fn frame_of(frame: Result<FrameInfo, DupRefusal>) -> LookAnswer
-    ensures { result ≡ frame_look frame }
-{
-    match frame {
-        Ok(info) => LookAnswer::Frame(info),
-        Err(cause) => LookAnswer::Refused(cause),
-    }
-}
-
 /// A release as an answer.
 fn release_of(released: Result<(), DupRefusal>) -> LookAnswer
     ensures { result ≡ release_look released }
@@ -79,7 +69,10 @@ fn acquire(dup: &mut Dup, log: &Log) -> LookAnswer
     ensures answer { IsAcquired result dup.old.memory dup.new.memory log.now }
     ensures stands { Stands dup.new log.now }
 {
-    frame_of(dup.acquire(log))
+    match dup.acquire(log) {
+        Ok(info) => LookAnswer::Frame(info),
+        Err(cause) => LookAnswer::Refused(cause),
+    }
 }
 
 /// Asks a duplicator.
