@@ -20,14 +20,16 @@ use Rattle.dd_station.proofs.Others.{begins_after, begins_first}
 use Rattle.dd_station.proofs.ToldNext.{Told, told_next}
 use Rattle.dd_station.proofs.Refusing.{next_refused}
 use Rattle.dd_station.proofs.Showing.{next_shows}
+use Rattle.dd_station.proofs.ShowingBuffers.{next_buffer}
+use Rattle.dd_station.proofs.Earlier.{BeginsWithEach, each_next}
 use Rattle.dd_station.proofs.Granting.{next_granted}
 use Rattle.dd_station.proofs.SlotsTold.{SlotIsTold, SlotsTold, slots_next}
 use Rattle.dd_station.proofs.ToldMore.{told-more}
 use Rattle.dd_station.proofs.Entering.{Enters, enters_next, entered_there}
 
 -- In a run of a script, steps are left from a state on, after these moments: the clients are the script's, what is left
--- leads to the whole list, as many steps are done as moments, and what the list has, what each duplicator remembers and
--- the slot that it has were told.
+-- leads to the whole list, as many steps are done as moments, the list begins with that of each of them, and what it
+-- has, what each duplicator remembers and the slot that it has were told.
 record IsOnItsWay (script : Script) (done : List Moment) (s : State) (left : List Step) : Type 0 where
   apps : s.clients ≡ script.clients
   whole : (after s left).history ≡ whole_list script
@@ -35,6 +37,7 @@ record IsOnItsWay (script : Script) (done : List Moment) (s : State) (left : Lis
   calls : AllByRecursion (IsOfClient (length script.clients)) left
   counted : s.steps ≡ length done
   listed : s.history.entries ≡ entries_told script.clients [] done
+  begun : BeginsWithEach done s.history
   told : Told (length script.clients) done s
   slots : SlotsTold (length script.clients) done s
 
@@ -75,6 +78,7 @@ way_next script done s t ts way =
           (way_enters script done s t ts way).entries
           ∙ ap (λ (es : List Entry). es ++ cons_option entry []) way.listed
           ∙ sym (told-more script.clients [] done (moment_of s t));
+      begun = each_next s t done way.begun;
       told =
           at_script (λ n. Told n now later) script s way.apps
           (told_next s t done way.run client (at_state (λ n. Told n done s) script s way.apps way.told));
@@ -94,7 +98,7 @@ right_next : (script : Script) (done : List Moment) (s : State) (t : Step) (ts :
 right_next script done s t ts way =
     let client = at_state (λ n. IsOfClient n t) script s way.apps way.calls.0 in
     let told = at_state (λ n. Told n done s) script s way.apps way.told in
-    let shown = next_shows s t done way.run client told in
+    let shown = next_shows s t done way.run client way.begun told in
     record {
       one_list =
           begins_first s.history (after s (t ∷ ts)).history (begins_after s (t ∷ ts))
@@ -107,6 +111,8 @@ right_next script done s t ts way =
       granted = next_granted s t;
       frame = shown.0;
       surface = shown.1;
+      desc = shown.2;
+      buffer = next_buffer s t done client told;
       entered =
           entered_there script.clients done (moment_of s t) (next s t).1.history (whole_list script)
           (way_enters script done s t ts way)
@@ -164,6 +170,7 @@ way_begun script few calls = record {
   calls = calls;
   counted = refl;
   listed = refl;
+  begun = tt;
   told = none_told script;
   slots = none_slots script;
 }

@@ -10,7 +10,9 @@ pub mod ToldNext
 pub mod Finding
 pub mod RefusingLists
 pub mod Refusing
+pub mod Earlier
 pub mod Showing
+pub mod ShowingBuffers
 pub mod Granting
 pub mod ToldMore
 pub mod EachStep

@@ -88,7 +88,7 @@ unfolding next
 begins_next s (steps.Draw d) = begins_drawn (allowed s.history d) s.history (entry_of s 0 (events.Draw d))
 begins_next s (steps.Call k call) = begins_called s k call
 
-begins_further : (h later last : History) → Begins h later → Begins later last → Begins h last
+pub begins_further : (h later last : History) → Begins h later → Begins later last → Begins h last
 begins_further h later last first second = record {
   spec = second.spec ∙ first.spec;
   within = omega (arith, first.within, second.within);

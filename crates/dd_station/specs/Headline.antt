@@ -1,23 +1,28 @@
 -- What holds of every run, in one statement: of each step, what it is answered, and why.
-use Rattle.std.specs.Prelude.{◌≡◌, ◌≤◌, ℕ, true, false, not, if◌then◌else◌, List, [], ◌∷◌, ◌++◌, length, drop, Option, Some, None, is_some, option_map}
+use Rattle.std.specs.Prelude.{◌≡◌, ◌≤◌, ℕ, ◌+◌, ◌*◌, true, false, not, if◌then◌else◌, List, [], ◌∷◌, ◌++◌, length, drop, Option, Some, None, is_some, option_map, Ok, Err}
 use Rattle.std.specs.List.{AllByRecursion}
+use Rattle.dd_geom.specs.declared.rect.TheConstants.{RECT_BYTES, MOVE_BYTES}
 use Rattle.dd_geom.specs.declared.rect.Rect.{Rect}
 use Rattle.dd_geom.specs.declared.rect.Move.{Move}
 use Rattle.dd_geom.specs.Grid.{rows}
-use Rattle.dd_acc.specs.Effects.{any_reaches}
+use Rattle.dd_grid.specs.Drawing.{any_hidden}
+use Rattle.dd_acc.specs.Effects.{any_reaches, is_coalesced}
 use Rattle.dd_acc.specs.Rebuild.{any_has, rebuild}
+use Rattle.dd_meta.specs.Buffer.{bytes_of_moves, bytes_of_rects, put}
 use Rattle.dd_log.specs.declared.answers.Answer.{Answer}
 use Rattle.dd_log.specs.declared.answers.Answer.TheVariants as answers
+use Rattle.dd_log.specs.declared.answers.DupRefusal.TheVariants.{MoreData}
 use Rattle.dd_log.specs.declared.answers.FrameInfo.{FrameInfo}
-use Rattle.dd_log.specs.History.{History, desk_mode, first_entries}
-use Rattle.dd_log.specs.Picture.{presents, view}
+use Rattle.dd_log.specs.History.{History, desk, desk_mode, first_entries, last_present, last_pointed, last_shape}
+use Rattle.dd_log.specs.Picture.{presents, picture, view}
 use Rattle.dd_dup.specs.declared.frame.Frame.{Frame}
-use Rattle.dd_dup.specs.News.{moves_of, dirt_of}
-use Rattle.dd_dup.specs.Reply.{Memory}
+use Rattle.dd_dup.specs.News.{moves_of, dirt_of, shape_bytes}
+use Rattle.dd_dup.specs.Reply.{Memory, filled_buffer}
 use Rattle.dd_station.specs.declared.steps.TheConstants.{MAX_CLIENTS}
 use Rattle.dd_station.specs.declared.steps.Script.{Script}
 use Rattle.dd_station.specs.declared.steps.Step.{Step}
 use Rattle.dd_station.specs.declared.steps.Step.TheVariants as steps
+use Rattle.dd_station.specs.declared.steps.ClientCall.TheVariants as calls
 use Rattle.dd_station.specs.Run.{IsOfClient}
 use Rattle.dd_station.specs.Trace.{Moment, trace, whole_list, caller, place_of, opening_of, picture_seen, pointer_seen, frame_held}
 use Rattle.dd_station.specs.Causes.{causes_of, first_of, refusal_in, is_granted}
@@ -48,22 +53,48 @@ IsRemembered before memory (steps.Call k call) = MayRemember k before memory
 -- ---- what a frame tells
 
 -- A frame over a list, of a duplicator that has seen the first entries of it: those are never more than the list has;
--- the frame counts the presents behind them; what was seen then, with the frame's moves drawn in their order and then
--- its dirty rectangles copied from what is seen of the list now, is exactly that; and unless the rectangles were
--- rounded, each of their points was drawn or scrolled to since then.
+-- what was seen then, with the frame's moves drawn in their order and then its dirty rectangles copied from what is
+-- seen of the list now, is exactly that; and its info is that of the presents behind the entries that were seen.
 pub record Shows (before : ℕ) (h : History) (info : FrameInfo) (moves : List Move) (dirt : List Rect) : Type 0 where
   pub within : before ≤ length h.entries
+  -- how many presents there are, and the event number of the last of them, 0 where there is none
   pub counted : info.accumulated ≡ length (presents (drop before h.entries))
+  pub last : info.last_present ≡ last_present before (drop before h.entries)
   pub rebuilt : rebuild (view (first_entries before h)) moves dirt (view h) ≡ view h
   pub scrolls : moves ≡ moves_of (drop before h.entries)
   pub dirty : dirt ≡ dirt_of (desk_mode h).width (desk_mode h).height (drop before h.entries)
+  -- it is said of the rectangles whether they were rounded, and unless they were, each of their points was drawn or
+  -- scrolled to since then
+  pub rounded :
+      info.coalesced ≡ is_coalesced (desk_mode h).width (desk_mode h).height (presents (drop before h.entries))
   pub honest : info.coalesced ≡ false
       → (x y : ℕ) → any_has dirt x y ≡ true → any_reaches (presents (drop before h.entries)) x y ≡ true
+  -- whether some point of the desktop is hidden now
+  pub veiled : info.protected ≡ any_hidden (picture h)
+  -- the bytes of the moves and of the dirty rectangles together
+  pub size : info.meta_size ≡ MOVE_BYTES * length moves + RECT_BYTES * length dirt
 
--- an answer that is a frame shows the list from where its client had seen it
+-- What a frame tells of the pointer, where its duplicator had seen the first entries of the list.
+pub record Points (before : ℕ) (h : History) (info : FrameInfo) : Type 0 where
+  -- the event number of the last entry behind them that set the pointer or its shape, 0 where there is none
+  pub last : info.last_mouse ≡ last_pointed before (drop before h.entries)
+  -- where the pointer is now, and whether it is shown
+  pub pointer : info.pointer ≡ (desk h).pointer
+  -- the bytes of the last shape that it was given behind them, 0 where there is none
+  pub shape : info.shape_size ≡ length (shape_bytes (last_shape (drop before h.entries)))
+
+-- the picture is shown from where the client had seen it, and the pointer from where it had seen that
+abbrev pub PictureIsShown : ℕ → List Moment → History → FrameInfo → List Move → List Rect → Type 0
+PictureIsShown k before h info moves dirt =
+    (seen : ℕ) × (picture_seen k before ≡ Some seen) × Shows seen h info moves dirt
+
+abbrev pub PointerIsShown : ℕ → List Moment → History → FrameInfo → Type 0
+PointerIsShown k before h info = (seen : ℕ) × (pointer_seen k before ≡ Some seen) × Points seen h info
+
+-- an answer that is a frame shows both
 abbrev pub FrameShows : ℕ → List Moment → History → Answer → Type 0
 FrameShows k before h (answers.Frame info moves dirt) =
-    (seen : ℕ) × (picture_seen k before ≡ Some seen) × Shows seen h info moves dirt
+    PictureIsShown k before h info moves dirt × PointerIsShown k before h info
 FrameShows k before h _ = Unit {0}
 
 -- the rows of what is seen of the first entries
@@ -75,6 +106,38 @@ abbrev pub SurfaceShows : ℕ → List Moment → History → Answer → Type 0
 SurfaceShows k before h (answers.Surface given) =
     given ≡ (if is_some (frame_held k before) then option_map (rows_at h) (picture_seen k before) else None)
 SurfaceShows k before h _ = Unit {0}
+
+-- the mode that is told is that of the list at the client's opening
+abbrev pub DescShows : ℕ → List Moment → Answer → Type 0
+DescShows k before (answers.Desc mode) = option_map (λ m. desk_mode m.list) (opening_of k before) ≡ Some mode
+DescShows k before _ = Unit {0}
+
+-- ---- what a buffer has
+
+-- the moves and the dirty rectangles of an answer that is a frame
+abbrev pub moves_told : Option Answer → List Move
+moves_told (Some (answers.Frame info moves dirt)) = moves
+moves_told _ = []
+
+abbrev pub dirt_told : Option Answer → List Rect
+dirt_told (Some (answers.Frame info moves dirt)) = dirt
+dirt_told _ = []
+
+-- A buffer of n bytes into which bytes were put has them at its front, and behind them stays as it was filled; one that
+-- is shorter comes back as it was filled, with the number of bytes that is required.
+abbrev pub BufferHas : List ℕ → ℕ → Answer → Type 0
+BufferHas bytes n (answers.Buffer size buffer) = put bytes (filled_buffer n) ≡ (Ok size, buffer)
+BufferHas bytes n (answers.Refused (MoreData required) (Some buffer)) =
+    put bytes (filled_buffer n) ≡ (Err required, buffer)
+BufferHas bytes n _ = Unit {0}
+
+-- the bytes are those of the moves, or of the dirty rectangles, of the frame that the client was told and holds
+abbrev pub BufferShows : List Moment → Step → Answer → Type 0
+BufferShows before (steps.Call k (calls.Moves n)) a =
+    BufferHas (bytes_of_moves (moves_told (frame_held k before))) n a
+BufferShows before (steps.Call k (calls.Dirty n)) a =
+    BufferHas (bytes_of_rects (dirt_told (frame_held k before))) n a
+BufferShows before t a = Unit {0}
 
 -- ---- the headline
 
@@ -90,6 +153,8 @@ pub record IsRight (script : Script) (before : List Moment) (m : Moment) : Type 
   pub granted : is_granted m.step m.answer ≡ not (is_some (refusal_in m.answer))
   pub frame : FrameShows (caller m.step) before m.list m.answer
   pub surface : SurfaceShows (caller m.step) before m.list m.answer
+  pub desc : DescShows (caller m.step) before m.answer
+  pub buffer : BufferShows before m.step m.answer
   pub entered :
       IsEntered (whole_list script) (place_of m) (number_in m.answer) (entry_told script.clients before m)
 
