@@ -1,4 +1,6 @@
 pub mod Trees
+pub mod Readings
+pub mod Keys
 pub mod TokenCount
 pub mod TreeSize
 pub mod Holds

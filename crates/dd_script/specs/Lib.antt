@@ -1,4 +1,5 @@
 pub mod Script
+pub mod Tree
 pub mod Reading
 pub mod Answers
 pub mod Texts

@@ -2,12 +2,13 @@
 use Rattle.std.specs.Prelude.{◌≡◌, ℕ, List, Option, Some, None, Result, Ok, Err, IsUtf8}
 use Rattle.serde_json.specs.Data.{Data}
 use Rattle.serde_json.specs.Read.{read}
-use Rattle.serde_json.specs.View.{view}
-use Rattle.serde_json.specs.declared.value.Value.{Value}
+use Rattle.json.specs.declared.value.Value.{Value}
+use Rattle.std.specs.declared.alloc.Global.{Global}
 use Rattle.dd_station.specs.declared.steps.Script.{Script}
 use Rattle.dd_script.specs.declared.fault.ScriptFault.{ScriptFault}
 use Rattle.dd_script.specs.declared.fault.ScriptFault.TheVariants.{NotJson, NotScript, OutOfMemory}
 use Rattle.dd_script.specs.Script.{script_of}
+use Rattle.dd_script.specs.Tree.{tree_data}
 
 -- the bytes are the text of a tree
 pub record IsJson (bytes : List ℕ) (d : Data) : Type 0 where
@@ -34,8 +35,8 @@ Gives view (Ok x) read = read ≡ Some (view x)
 Gives view (Err e) read = Refuses e read
 
 -- the bytes are the text of the value's tree, or of none; want of memory says nothing
-abbrev pub ReadsTree : Result Value ScriptFault → List ℕ → Type 0
-ReadsTree (Ok v) bytes = IsJson bytes (view v)
+abbrev pub ReadsTree : Result (Value Global) ScriptFault → List ℕ → Type 0
+ReadsTree (Ok v) bytes = IsJson bytes (tree_data v)
 ReadsTree (Err NotJson) bytes = (d : Data) → IsJson bytes d → ⊥
 ReadsTree (Err NotScript) bytes = ⊥
 ReadsTree (Err OutOfMemory) bytes = Unit {0}

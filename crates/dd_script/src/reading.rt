@@ -3,7 +3,9 @@
 mod calls;
 mod drawing;
 mod limits;
+mod numbers;
 mod output;
+mod parsing;
 mod pointer;
 #[cfg(test)]
 mod tests;
@@ -11,8 +13,8 @@ mod tree;
 
 ghost use Rattle.std.specs.Prelude.{◌≡◌, ◌<◌, ℕ, List, length, IfOk, IsTrue, Some};
 ghost use Rattle.serde_json.specs.Data.{Data};
-ghost use Rattle.serde_json.specs.View.{view};
-ghost use Rattle.dd_script.specs.Reading.{IsJson, Gives, ReadsTree, Reads};
+ghost use Rattle.dd_script.specs.Tree.{tree_data};
+ghost use Rattle.dd_script.specs.Reading.{IsJson, Gives, Reads};
 ghost use Rattle.dd_station.specs.declared.steps.Script as scripts;
 ghost use Rattle.dd_script.specs.Script.{parts_of, script_of, IsRunnable};
 ghost use Rattle.dd_script.specs.Spelling.{is_readable, IsReadBack};
@@ -21,29 +23,19 @@ use crate::fault::ScriptFault;
 use crate::reading::calls::steps_of;
 use crate::reading::limits::keeps_limits;
 use crate::reading::output::{apps_of, modes_of};
-use crate::reading::tree::{has_keys, member, u32_of};
+use crate::reading::parsing::tree_of;
+use crate::reading::tree::{Tree, has_keys, member, u32_of};
 pub use calls::MAX_BUFFER;
 use dd_log::Spec;
 use dd_station::Script;
-use serde_json::Value;
+use json::Scratch;
 use std::alloc::Global;
-
-/// The tree of a JSON text.
-fn tree_of(alloc: Global, bytes: &[u8]) -> Result<Value, ScriptFault>
-    ensures { ReadsTree result bytes.now }
-{
-    match Value::from_slice(alloc, bytes) {
-        Ok(tree) => Ok(tree),
-        Err(e) if e.is_memory() => Err(ScriptFault::OutOfMemory),
-        Err(_) => Err(ScriptFault::NotJson),
-    }
-}
 
 /// `{"modes":modes,"capacity":capacity,"privileged":[applications],"clients":[applications],
 /// "steps":[steps]}`.
 #[tactic(auto, unfolding(crate::specs::Script::parts_of))]
-fn parts_of(alloc: Global, tree: &Value) -> Result<Script, ScriptFault>
-    ensures { Gives (λ s. s) result (parts_of (view tree.now)) }
+fn parts_of(alloc: Global, tree: &Tree<'_>) -> Result<Script, ScriptFault>
+    ensures { Gives (λ s. s) result (parts_of (tree_data tree.now)) }
 {
     if !has_keys(tree, 5) {
         return Err(ScriptFault::NotScript);
@@ -67,8 +59,8 @@ fn parts_of(alloc: Global, tree: &Value) -> Result<Script, ScriptFault>
 
 /// The script that a tree is.
 #[tactic(auto, unfolding(crate::specs::Script::script_of))]
-fn script_of(alloc: Global, tree: &Value) -> Result<Script, ScriptFault>
-    ensures { Gives (λ s. s) result (script_of (view tree.now)) }
+fn script_of(alloc: Global, tree: &Tree<'_>) -> Result<Script, ScriptFault>
+    ensures { Gives (λ s. s) result (script_of (tree_data tree.now)) }
 {
     let script = parts_of(alloc, tree)?;
     if keeps_limits(&script) {
@@ -88,7 +80,8 @@ pub fn read_steps(alloc: Global, bytes: &[u8]) -> Result<Script, ScriptFault>
     ensures whole { IfOk result (λ s. IsRunnable s) }
     ensures count { IfOk result (λ s. length s.steps < length bytes.now) }
 {
-    let tree = tree_of(alloc, bytes)?;
+    let mut scratch = Scratch::new(alloc);
+    let tree = tree_of(alloc, bytes, &mut scratch)?;
     script_of(alloc, &tree)
 }
 

@@ -1,16 +1,15 @@
 //! Calls of clients, and the list of steps.
 
 ghost use Rattle.std.specs.Prelude.{◌≡◌, map};
-ghost use Rattle.serde_json.specs.View.{view};
+ghost use Rattle.dd_script.specs.Tree.{tree_data};
 ghost use Rattle.dd_script.specs.Reading.{Gives};
 ghost use Rattle.dd_script.specs.Script.{each, call_named, filling_named, buffer_of, plain_call_of, filling_call_of};
 ghost use Rattle.dd_script.specs.Script.{client_call_of, call_of, step_of, steps_of};
 
 use crate::fault::ScriptFault;
 use crate::reading::drawing::draw_of;
-use crate::reading::tree::{has_keys, list_of, u32_of};
+use crate::reading::tree::{Tree, get, has_keys, list_of, text_of, u32_of};
 use dd_station::{ClientCall, Step, Steps};
-use serde_json::Value;
 use std::alloc::Global;
 
 /// The most bytes of a buffer that a call is given.
@@ -47,8 +46,8 @@ fn filling_named(name: &str, buffer: u32) -> Option<ClientCall>
 
 /// A buffer's bytes: a whole number from 0 to 524288.
 #[tactic(auto, unfolding(crate::specs::Script::buffer_of))]
-fn buffer_of(tree: &Value) -> Option<u32>
-    ensures { result ≡ buffer_of (view tree.now) }
+fn buffer_of(tree: &Tree<'_>) -> Option<u32>
+    ensures { result ≡ buffer_of (tree_data tree.now) }
 {
     let bytes = u32_of(tree)?;
     if bytes <= MAX_BUFFER {
@@ -60,34 +59,34 @@ fn buffer_of(tree: &Value) -> Option<u32>
 
 /// `{"client":k,"call":name}`.
 #[tactic(auto, unfolding(crate::specs::Script::plain_call_of))]
-fn plain_call_of(tree: &Value) -> Option<ClientCall>
-    ensures { result ≡ plain_call_of (view tree.now) }
+fn plain_call_of(tree: &Tree<'_>) -> Option<ClientCall>
+    ensures { result ≡ plain_call_of (tree_data tree.now) }
 {
     if !has_keys(tree, 2) {
         return None;
     }
-    call_named(tree.get("call")?.as_str()?)
+    call_named(text_of(get(tree, "call")?)?)
 }
 
 /// `{"client":k,"call":name,"buffer":bytes}`.
 #[tactic(auto, unfolding(crate::specs::Script::filling_call_of))]
-fn filling_call_of(tree: &Value) -> Option<ClientCall>
-    ensures { result ≡ filling_call_of (view tree.now) }
+fn filling_call_of(tree: &Tree<'_>) -> Option<ClientCall>
+    ensures { result ≡ filling_call_of (tree_data tree.now) }
 {
     if !has_keys(tree, 3) {
         return None;
     }
-    let name = tree.get("call")?.as_str()?;
-    let buffer = buffer_of(tree.get("buffer")?)?;
+    let name = text_of(get(tree, "call")?)?;
+    let buffer = buffer_of(get(tree, "buffer")?)?;
     filling_named(name, buffer)
 }
 
 /// A call with a buffer where there is one.
 #[tactic(auto, unfolding(crate::specs::Script::client_call_of))]
-fn client_call_of(tree: &Value) -> Option<ClientCall>
-    ensures { result ≡ client_call_of (view tree.now) }
+fn client_call_of(tree: &Tree<'_>) -> Option<ClientCall>
+    ensures { result ≡ client_call_of (tree_data tree.now) }
 {
-    if tree.get("buffer").is_some() {
+    if get(tree, "buffer").is_some() {
         filling_call_of(tree)
     } else {
         plain_call_of(tree)
@@ -96,20 +95,20 @@ fn client_call_of(tree: &Value) -> Option<ClientCall>
 
 /// The client's number, and its call.
 #[tactic(auto, unfolding(crate::specs::Script::call_of))]
-fn call_of(tree: &Value) -> Option<Step>
-    ensures { result ≡ call_of (view tree.now) }
+fn call_of(tree: &Tree<'_>) -> Option<Step>
+    ensures { result ≡ call_of (tree_data tree.now) }
 {
-    let client = u32_of(tree.get("client")?)?;
+    let client = u32_of(get(tree, "client")?)?;
     let call = client_call_of(tree)?;
     Some(Step::Call { client, call })
 }
 
 /// A call where there is a client, else a drawing.
 #[tactic(auto, unfolding(crate::specs::Script::step_of))]
-fn step_of(alloc: Global, tree: &Value) -> Result<Step, ScriptFault>
-    ensures { Gives (λ s. s) result (step_of (view tree.now)) }
+fn step_of(alloc: Global, tree: &Tree<'_>) -> Result<Step, ScriptFault>
+    ensures { Gives (λ s. s) result (step_of (tree_data tree.now)) }
 {
-    if tree.get("client").is_some() {
+    if get(tree, "client").is_some() {
         call_of(tree).ok_or(ScriptFault::NotScript)
     } else {
         Ok(Step::Draw(draw_of(alloc, tree)?))
@@ -118,8 +117,8 @@ fn step_of(alloc: Global, tree: &Value) -> Result<Step, ScriptFault>
 
 /// The steps of the trees, in their order.
 #[tactic(auto, using(crate::proofs::Each::one_by_one))]
-fn each_step(alloc: Global, trees: &[Value]) -> Result<Vec<Step>, ScriptFault>
-    ensures { Gives (λ v. v.items) result (each step_of (map view trees.now)) }
+fn each_step(alloc: Global, trees: &[Tree<'_>]) -> Result<Vec<Step>, ScriptFault>
+    ensures { Gives (λ v. v.items) result (each step_of (map tree_data trees.now)) }
 {
     let mut steps = Vec::new(alloc);
     for tree in trees {
@@ -131,8 +130,8 @@ fn each_step(alloc: Global, trees: &[Value]) -> Result<Vec<Step>, ScriptFault>
 
 /// A list of steps.
 #[tactic(auto, unfolding(crate::specs::Script::steps_of))]
-pub fn steps_of(alloc: Global, tree: &Value) -> Result<Steps, ScriptFault>
-    ensures { Gives (λ s. s) result (steps_of (view tree.now)) }
+pub fn steps_of(alloc: Global, tree: &Tree<'_>) -> Result<Steps, ScriptFault>
+    ensures { Gives (λ s. s) result (steps_of (tree_data tree.now)) }
 {
     let trees = list_of(tree).ok_or(ScriptFault::NotScript)?;
     Ok(Steps::from_vec(each_step(alloc, trees)?))

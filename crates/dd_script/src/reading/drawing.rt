@@ -3,7 +3,7 @@
 ghost use Rattle.std.specs.Prelude.{◌≡◌, ◌≤◌, length, map, IfOk};
 ghost use Rattle.std.specs.Result.{result_ok};
 ghost use Rattle.hex.specs.Hex.{decode_of};
-ghost use Rattle.serde_json.specs.View.{view};
+ghost use Rattle.dd_script.specs.Tree.{tree_data};
 ghost use Rattle.dd_ops.specs.declared.lists.TheConstants.{MAX_OPS};
 ghost use Rattle.dd_script.specs.Reading.{Gives};
 ghost use Rattle.dd_script.specs.Script.{each, point_of, rect_of, bytes_of};
@@ -13,26 +13,27 @@ ghost use Rattle.dd_script.specs.Script.{present_of, change_of, switch_of, has_t
 
 use crate::fault::ScriptFault;
 use crate::reading::pointer::{pointer_of, shape_of};
-use crate::reading::tree::{has_items, has_keys, i32_of, list_of, member, u32_of};
+use crate::reading::tree::{
+    Tree, at, get, has_items, has_keys, i32_of, list_of, member, text_of, truth_of, u32_of,
+};
 use dd_geom::{Move, Point, Rect};
 use dd_log::Draw;
 use dd_ops::{Colours, MAX_OPS, Op, Ops};
 use hex::{FromHex, FromHexError};
-use serde_json::Value;
 use std::alloc::{AllocError, Global};
 
 /// `[left, top, right, bottom]`.
 #[tactic(auto, unfolding(crate::specs::Script::rect_of))]
-fn rect_of(tree: &Value) -> Option<Rect>
-    ensures { result ≡ rect_of (view tree.now) }
+fn rect_of(tree: &Tree<'_>) -> Option<Rect>
+    ensures { result ≡ rect_of (tree_data tree.now) }
 {
     if !has_items(tree, 4) {
         return None;
     }
-    let left = i32_of(tree.get(0usize)?)?;
-    let top = i32_of(tree.get(1usize)?)?;
-    let right = i32_of(tree.get(2usize)?)?;
-    let bottom = i32_of(tree.get(3usize)?)?;
+    let left = i32_of(at(tree, 0)?)?;
+    let top = i32_of(at(tree, 1)?)?;
+    let right = i32_of(at(tree, 2)?)?;
+    let bottom = i32_of(at(tree, 3)?)?;
     Some(Rect {
         left,
         top,
@@ -43,23 +44,23 @@ fn rect_of(tree: &Value) -> Option<Rect>
 
 /// `[x, y]`.
 #[tactic(auto, unfolding(crate::specs::Script::point_of))]
-pub fn point_of(tree: &Value) -> Option<Point>
-    ensures { result ≡ point_of (view tree.now) }
+pub fn point_of(tree: &Tree<'_>) -> Option<Point>
+    ensures { result ≡ point_of (tree_data tree.now) }
 {
     if !has_items(tree, 2) {
         return None;
     }
-    let x = i32_of(tree.get(0usize)?)?;
-    let y = i32_of(tree.get(1usize)?)?;
+    let x = i32_of(at(tree, 0)?)?;
+    let y = i32_of(at(tree, 1)?)?;
     Some(Point { x, y })
 }
 
 /// Six hexadecimal digits: red, green, blue.
 #[tactic(auto, unfolding(crate::specs::Script::colour_of))]
-fn colour_of(tree: &Value) -> Option<u32>
-    ensures { result ≡ colour_of (view tree.now) }
+fn colour_of(tree: &Tree<'_>) -> Option<u32>
+    ensures { result ≡ colour_of (tree_data tree.now) }
 {
-    let [red, green, blue] = <[u8; 3] as FromHex>::from_hex(tree.as_str()?).ok()?;
+    let [red, green, blue] = <[u8; 3] as FromHex>::from_hex(text_of(tree)?).ok()?;
     Some(u32::from_be_bytes([0, red, green, blue]))
 }
 
@@ -76,10 +77,10 @@ fn decoded(alloc: Global, text: &str) -> Result<Vec<u8>, ScriptFault>
 
 /// Hexadecimal digits, two for each byte.
 #[tactic(auto, unfolding(crate::specs::Script::bytes_of))]
-pub fn bytes_of(alloc: Global, tree: &Value) -> Result<Vec<u8>, ScriptFault>
-    ensures { Gives (λ v. v.items) result (bytes_of (view tree.now)) }
+pub fn bytes_of(alloc: Global, tree: &Tree<'_>) -> Result<Vec<u8>, ScriptFault>
+    ensures { Gives (λ v. v.items) result (bytes_of (tree_data tree.now)) }
 {
-    let text = tree.as_str().ok_or(ScriptFault::NotScript)?;
+    let text = text_of(tree).ok_or(ScriptFault::NotScript)?;
     decoded(alloc, text)
 }
 
@@ -109,8 +110,8 @@ fn colours_from(alloc: Global, bytes: &[u8]) -> Result<Colours, ScriptFault>
 
 /// Hexadecimal digits, six for each colour.
 #[tactic(auto, unfolding(crate::specs::Script::colours_of))]
-fn colours_of(alloc: Global, tree: &Value) -> Result<Colours, ScriptFault>
-    ensures { Gives (λ colours. colours) result (colours_of (view tree.now)) }
+fn colours_of(alloc: Global, tree: &Tree<'_>) -> Result<Colours, ScriptFault>
+    ensures { Gives (λ colours. colours) result (colours_of (tree_data tree.now)) }
 {
     let bytes = bytes_of(alloc, tree)?;
     colours_from(alloc, bytes.as_slice())
@@ -118,18 +119,18 @@ fn colours_of(alloc: Global, tree: &Value) -> Result<Colours, ScriptFault>
 
 /// `{"fill":R,"colour":colour}`.
 #[tactic(auto, unfolding(crate::specs::Script::fill_of))]
-fn fill_of(tree: &Value) -> Option<Op>
-    ensures { result ≡ fill_of (view tree.now) }
+fn fill_of(tree: &Tree<'_>) -> Option<Op>
+    ensures { result ≡ fill_of (tree_data tree.now) }
 {
-    let rect = rect_of(tree.get("fill")?)?;
-    let colour = colour_of(tree.get("colour")?)?;
+    let rect = rect_of(get(tree, "fill")?)?;
+    let colour = colour_of(get(tree, "colour")?)?;
     Some(Op::Fill { rect, colour })
 }
 
 /// `{"blit":R,"colours":colours}`.
 #[tactic(auto, unfolding(crate::specs::Script::blit_of))]
-fn blit_of(alloc: Global, tree: &Value) -> Result<Op, ScriptFault>
-    ensures { Gives (λ op. op) result (blit_of (view tree.now)) }
+fn blit_of(alloc: Global, tree: &Tree<'_>) -> Result<Op, ScriptFault>
+    ensures { Gives (λ op. op) result (blit_of (tree_data tree.now)) }
 {
     let rect = rect_of(member(tree, "blit")?).ok_or(ScriptFault::NotScript)?;
     let colours = colours_of(alloc, member(tree, "colours")?)?;
@@ -138,8 +139,8 @@ fn blit_of(alloc: Global, tree: &Value) -> Result<Op, ScriptFault>
 
 /// `{"cover":R,"colours":colours}`.
 #[tactic(auto, unfolding(crate::specs::Script::cover_of))]
-fn cover_of(alloc: Global, tree: &Value) -> Result<Op, ScriptFault>
-    ensures { Gives (λ op. op) result (cover_of (view tree.now)) }
+fn cover_of(alloc: Global, tree: &Tree<'_>) -> Result<Op, ScriptFault>
+    ensures { Gives (λ op. op) result (cover_of (tree_data tree.now)) }
 {
     let rect = rect_of(member(tree, "cover")?).ok_or(ScriptFault::NotScript)?;
     let colours = colours_of(alloc, member(tree, "colours")?)?;
@@ -148,11 +149,11 @@ fn cover_of(alloc: Global, tree: &Value) -> Result<Op, ScriptFault>
 
 /// `{"scroll":R,"from":[x,y]}`: the destination, and the source's point.
 #[tactic(auto, unfolding(crate::specs::Script::scroll_of))]
-fn scroll_of(tree: &Value) -> Option<Op>
-    ensures { result ≡ scroll_of (view tree.now) }
+fn scroll_of(tree: &Tree<'_>) -> Option<Op>
+    ensures { result ≡ scroll_of (tree_data tree.now) }
 {
-    let dest = rect_of(tree.get("scroll")?)?;
-    let source = point_of(tree.get("from")?)?;
+    let dest = rect_of(get(tree, "scroll")?)?;
+    let source = point_of(get(tree, "from")?)?;
     Some(Op::Scroll {
         mv: Move { source, dest },
     })
@@ -160,17 +161,17 @@ fn scroll_of(tree: &Value) -> Option<Op>
 
 /// An operation has two keys, of which one tells its kind.
 #[tactic(auto, unfolding(crate::specs::Script::operation_of))]
-fn operation_of(alloc: Global, tree: &Value) -> Result<Op, ScriptFault>
-    ensures { Gives (λ op. op) result (operation_of (view tree.now)) }
+fn operation_of(alloc: Global, tree: &Tree<'_>) -> Result<Op, ScriptFault>
+    ensures { Gives (λ op. op) result (operation_of (tree_data tree.now)) }
 {
     if !has_keys(tree, 2) {
         return Err(ScriptFault::NotScript);
     }
-    if tree.get("fill").is_some() {
+    if get(tree, "fill").is_some() {
         fill_of(tree).ok_or(ScriptFault::NotScript)
-    } else if tree.get("blit").is_some() {
+    } else if get(tree, "blit").is_some() {
         blit_of(alloc, tree)
-    } else if tree.get("cover").is_some() {
+    } else if get(tree, "cover").is_some() {
         cover_of(alloc, tree)
     } else {
         scroll_of(tree).ok_or(ScriptFault::NotScript)
@@ -179,9 +180,9 @@ fn operation_of(alloc: Global, tree: &Value) -> Result<Op, ScriptFault>
 
 /// The operations of the trees, in their order.
 #[tactic(auto, using(crate::proofs::Each::one_by_one))]
-fn each_operation(alloc: Global, trees: &[Value]) -> Result<Ops, ScriptFault>
+fn each_operation(alloc: Global, trees: &[Tree<'_>]) -> Result<Ops, ScriptFault>
     requires { length trees.now ≤ MAX_OPS }
-    ensures { Gives (λ ops. ops) result (each operation_of (map view trees.now)) }
+    ensures { Gives (λ ops. ops) result (each operation_of (map tree_data trees.now)) }
 {
     let mut ops = Ops::new(alloc);
     for tree in trees {
@@ -193,8 +194,8 @@ fn each_operation(alloc: Global, trees: &[Value]) -> Result<Ops, ScriptFault>
 
 /// A list of 0 to 64 operations.
 #[tactic(auto, unfolding(crate::specs::Script::operations_of))]
-fn operations_of(alloc: Global, tree: &Value) -> Result<Ops, ScriptFault>
-    ensures { Gives (λ ops. ops) result (operations_of (view tree.now)) }
+fn operations_of(alloc: Global, tree: &Tree<'_>) -> Result<Ops, ScriptFault>
+    ensures { Gives (λ ops. ops) result (operations_of (tree_data tree.now)) }
 {
     let trees = list_of(tree).ok_or(ScriptFault::NotScript)?;
     if trees.len() > MAX_OPS {
@@ -205,8 +206,8 @@ fn operations_of(alloc: Global, tree: &Value) -> Result<Ops, ScriptFault>
 
 /// `{"present":[operations]}`.
 #[tactic(auto, unfolding(crate::specs::Script::present_of))]
-fn present_of(alloc: Global, tree: &Value) -> Result<Draw, ScriptFault>
-    ensures { Gives (λ d. d) result (present_of (view tree.now)) }
+fn present_of(alloc: Global, tree: &Tree<'_>) -> Result<Draw, ScriptFault>
+    ensures { Gives (λ d. d) result (present_of (tree_data tree.now)) }
 {
     let ops = operations_of(alloc, member(tree, "present")?)?;
     Ok(Draw::Present(ops))
@@ -214,37 +215,37 @@ fn present_of(alloc: Global, tree: &Value) -> Result<Draw, ScriptFault>
 
 /// `{"mode":index}`.
 #[tactic(auto, unfolding(crate::specs::Script::change_of))]
-fn change_of(tree: &Value) -> Option<Draw>
-    ensures { result ≡ change_of (view tree.now) }
+fn change_of(tree: &Tree<'_>) -> Option<Draw>
+    ensures { result ≡ change_of (tree_data tree.now) }
 {
-    let index = u32_of(tree.get("mode")?)?;
+    let index = u32_of(get(tree, "mode")?)?;
     Some(Draw::Mode { index })
 }
 
 /// `{"switch":secure}`.
 #[tactic(auto, unfolding(crate::specs::Script::switch_of))]
-fn switch_of(tree: &Value) -> Option<Draw>
-    ensures { result ≡ switch_of (view tree.now) }
+fn switch_of(tree: &Tree<'_>) -> Option<Draw>
+    ensures { result ≡ switch_of (tree_data tree.now) }
 {
-    let secure = tree.get("switch")?.as_bool()?;
+    let secure = truth_of(get(tree, "switch")?)?;
     Some(Draw::Switch { secure })
 }
 
 /// Whether the key's value is true.
 #[tactic(auto, unfolding(crate::specs::Script::has_true))]
-fn has_true(tree: &Value, key: &str) -> bool
-    ensures { result ≡ has_true key.now (view tree.now) }
+fn has_true(tree: &Tree<'_>, key: &str) -> bool
+    ensures { result ≡ has_true key.now (tree_data tree.now) }
 {
-    match tree.get(key) {
-        Some(value) => value.as_bool().unwrap_or(false),
+    match get(tree, key) {
+        Some(value) => truth_of(value).unwrap_or(false),
         None => false,
     }
 }
 
 /// `{"disconnect":true}` or `{"reconnect":true}`.
 #[tactic(auto, unfolding(crate::specs::Script::session_of))]
-fn session_of(tree: &Value) -> Option<Draw>
-    ensures { result ≡ session_of (view tree.now) }
+fn session_of(tree: &Tree<'_>) -> Option<Draw>
+    ensures { result ≡ session_of (tree_data tree.now) }
 {
     if has_true(tree, "disconnect") {
         Some(Draw::Disconnect)
@@ -257,17 +258,17 @@ fn session_of(tree: &Value) -> Option<Draw>
 
 /// A drawing of one key, which tells its kind.
 #[tactic(auto, unfolding(crate::specs::Script::single_of))]
-fn single_of(alloc: Global, tree: &Value) -> Result<Draw, ScriptFault>
-    ensures { Gives (λ d. d) result (single_of (view tree.now)) }
+fn single_of(alloc: Global, tree: &Tree<'_>) -> Result<Draw, ScriptFault>
+    ensures { Gives (λ d. d) result (single_of (tree_data tree.now)) }
 {
     if !has_keys(tree, 1) {
         return Err(ScriptFault::NotScript);
     }
-    if tree.get("present").is_some() {
+    if get(tree, "present").is_some() {
         present_of(alloc, tree)
-    } else if tree.get("mode").is_some() {
+    } else if get(tree, "mode").is_some() {
         change_of(tree).ok_or(ScriptFault::NotScript)
-    } else if tree.get("switch").is_some() {
+    } else if get(tree, "switch").is_some() {
         switch_of(tree).ok_or(ScriptFault::NotScript)
     } else {
         session_of(tree).ok_or(ScriptFault::NotScript)
@@ -276,12 +277,12 @@ fn single_of(alloc: Global, tree: &Value) -> Result<Draw, ScriptFault>
 
 /// A pointer, a shape, or a drawing of one key.
 #[tactic(auto, unfolding(crate::specs::Script::draw_of))]
-pub fn draw_of(alloc: Global, tree: &Value) -> Result<Draw, ScriptFault>
-    ensures { Gives (λ d. d) result (draw_of (view tree.now)) }
+pub fn draw_of(alloc: Global, tree: &Tree<'_>) -> Result<Draw, ScriptFault>
+    ensures { Gives (λ d. d) result (draw_of (tree_data tree.now)) }
 {
-    if tree.get("pointer").is_some() {
+    if get(tree, "pointer").is_some() {
         pointer_of(tree).ok_or(ScriptFault::NotScript)
-    } else if tree.get("shape").is_some() {
+    } else if get(tree, "shape").is_some() {
         shape_of(alloc, tree)
     } else {
         single_of(alloc, tree)

@@ -1,15 +1,14 @@
 //! What an output is begun with: its modes and its applications.
 
 ghost use Rattle.std.specs.Prelude.{◌≡◌, map};
-ghost use Rattle.serde_json.specs.View.{view};
+ghost use Rattle.dd_script.specs.Tree.{tree_data};
 ghost use Rattle.dd_script.specs.Reading.{Gives};
 ghost use Rattle.dd_script.specs.Script.{each, u32_of, rotation_numbered, mode_of, modes_of, apps_of};
 
 use crate::fault::ScriptFault;
-use crate::reading::tree::{has_items, list_of, u32_of};
+use crate::reading::tree::{Tree, at, has_items, list_of, u32_of};
 use dd_log::Apps;
 use dd_modes::{Mode, Modes, Rotation};
-use serde_json::Value;
 use std::alloc::Global;
 
 /// A rotation by its number.
@@ -29,15 +28,15 @@ fn rotation_numbered(number: u32) -> Option<Rotation>
 
 /// `[width, height, rotation]`.
 #[tactic(auto, unfolding(crate::specs::Script::mode_of))]
-fn mode_of(tree: &Value) -> Option<Mode>
-    ensures { result ≡ mode_of (view tree.now) }
+fn mode_of(tree: &Tree<'_>) -> Option<Mode>
+    ensures { result ≡ mode_of (tree_data tree.now) }
 {
     if !has_items(tree, 3) {
         return None;
     }
-    let width = u32_of(tree.get(0usize)?)?;
-    let height = u32_of(tree.get(1usize)?)?;
-    let rotation = rotation_numbered(u32_of(tree.get(2usize)?)?)?;
+    let width = u32_of(at(tree, 0)?)?;
+    let height = u32_of(at(tree, 1)?)?;
+    let rotation = rotation_numbered(u32_of(at(tree, 2)?)?)?;
     Some(Mode {
         width,
         height,
@@ -47,8 +46,8 @@ fn mode_of(tree: &Value) -> Option<Mode>
 
 /// The modes of the trees, in their order.
 #[tactic(auto, using(crate::proofs::Each::one_by_one))]
-fn each_mode(alloc: Global, trees: &[Value]) -> Result<Vec<Mode>, ScriptFault>
-    ensures { Gives (λ v. v.items) result (each mode_of (map view trees.now)) }
+fn each_mode(alloc: Global, trees: &[Tree<'_>]) -> Result<Vec<Mode>, ScriptFault>
+    ensures { Gives (λ v. v.items) result (each mode_of (map tree_data trees.now)) }
 {
     let mut modes = Vec::new(alloc);
     for tree in trees {
@@ -60,8 +59,8 @@ fn each_mode(alloc: Global, trees: &[Value]) -> Result<Vec<Mode>, ScriptFault>
 
 /// Modes that an output may have.
 #[tactic(auto, unfolding(crate::specs::Script::modes_of))]
-pub fn modes_of(alloc: Global, tree: &Value) -> Result<Modes, ScriptFault>
-    ensures { Gives (λ modes. modes) result (modes_of (view tree.now)) }
+pub fn modes_of(alloc: Global, tree: &Tree<'_>) -> Result<Modes, ScriptFault>
+    ensures { Gives (λ modes. modes) result (modes_of (tree_data tree.now)) }
 {
     let trees = list_of(tree).ok_or(ScriptFault::NotScript)?;
     let modes = each_mode(alloc, trees)?;
@@ -70,8 +69,8 @@ pub fn modes_of(alloc: Global, tree: &Value) -> Result<Modes, ScriptFault>
 
 /// The numbers of the trees, in their order.
 #[tactic(auto, using(crate::proofs::Each::one_by_one))]
-fn each_number(alloc: Global, trees: &[Value]) -> Result<Vec<u32>, ScriptFault>
-    ensures { Gives (λ v. v.items) result (each u32_of (map view trees.now)) }
+fn each_number(alloc: Global, trees: &[Tree<'_>]) -> Result<Vec<u32>, ScriptFault>
+    ensures { Gives (λ v. v.items) result (each u32_of (map tree_data trees.now)) }
 {
     let mut numbers = Vec::new(alloc);
     for tree in trees {
@@ -83,8 +82,8 @@ fn each_number(alloc: Global, trees: &[Value]) -> Result<Vec<u32>, ScriptFault>
 
 /// A list of applications.
 #[tactic(auto, unfolding(crate::specs::Script::apps_of))]
-pub fn apps_of(alloc: Global, tree: &Value) -> Result<Apps, ScriptFault>
-    ensures { Gives (λ apps. apps) result (apps_of (view tree.now)) }
+pub fn apps_of(alloc: Global, tree: &Tree<'_>) -> Result<Apps, ScriptFault>
+    ensures { Gives (λ apps. apps) result (apps_of (tree_data tree.now)) }
 {
     let trees = list_of(tree).ok_or(ScriptFault::NotScript)?;
     Ok(Apps::from_vec(each_number(alloc, trees)?))

@@ -2,7 +2,7 @@
 
 ghost use Rattle.std.specs.Prelude.{◌≡◌, IsErr};
 ghost use Rattle.std.specs.Result.{result_ok};
-ghost use Rattle.serde_json.specs.View.{view};
+ghost use Rattle.dd_script.specs.Tree.{tree_data};
 ghost use Rattle.dd_pointer.specs.Shape.{reading};
 ghost use Rattle.dd_script.specs.declared.fault.ScriptFault.TheVariants.{NotScript};
 ghost use Rattle.dd_script.specs.Reading.{Gives};
@@ -10,23 +10,22 @@ ghost use Rattle.dd_script.specs.Script.{pointer_of, shape_of};
 
 use crate::fault::ScriptFault;
 use crate::reading::drawing::{bytes_of, point_of};
-use crate::reading::tree::{has_keys, member, u32_of};
+use crate::reading::tree::{Tree, get, has_keys, member, truth_of, u32_of};
 use dd_geom::Point;
 use dd_log::Draw;
 use dd_pointer::{Shape, ShapeFault};
-use serde_json::Value;
 use std::alloc::Global;
 
 /// `{"pointer":[x,y],"visible":visible}`.
 #[tactic(auto, unfolding(crate::specs::Script::pointer_of))]
-pub fn pointer_of(tree: &Value) -> Option<Draw>
-    ensures { result ≡ pointer_of (view tree.now) }
+pub fn pointer_of(tree: &Tree<'_>) -> Option<Draw>
+    ensures { result ≡ pointer_of (tree_data tree.now) }
 {
     if !has_keys(tree, 2) {
         return None;
     }
-    let position = point_of(tree.get("pointer")?)?;
-    let visible = tree.get("visible")?.as_bool()?;
+    let position = point_of(get(tree, "pointer")?)?;
+    let visible = truth_of(get(tree, "visible")?)?;
     Some(Draw::Pointer { position, visible })
 }
 
@@ -54,8 +53,8 @@ fn shape_from(
 /// `{"shape":kind,"width":width,"height":height,"hot":[x,y],"bytes":bytes}`, where these parts are a
 /// shape.
 #[tactic(auto, unfolding(crate::specs::Script::shape_of))]
-pub fn shape_of(alloc: Global, tree: &Value) -> Result<Draw, ScriptFault>
-    ensures { Gives (λ d. d) result (shape_of (view tree.now)) }
+pub fn shape_of(alloc: Global, tree: &Tree<'_>) -> Result<Draw, ScriptFault>
+    ensures { Gives (λ d. d) result (shape_of (tree_data tree.now)) }
 {
     if !has_keys(tree, 5) {
         return Err(ScriptFault::NotScript);

@@ -14,7 +14,7 @@ fn told(alloc: Global, text: &[u8]) -> Result<String, AllocError> {
 
 #[test]
 fn texts(rt: HostRuntime) -> Result<(), Fail> {
-    let cases: [(&[u8], &str); 5] = [
+    let cases: [(&[u8], &str); 8] = [
         (
             b"{\"modes\":[[4,3,1],[3,4,0]],\"capacity\":100,\"privileged\":[9],\"clients\":[1,9],\
               \"steps\":[{\"client\":1,\"call\":\"duplicate\"},{\"present\":[\
@@ -66,6 +66,15 @@ fn texts(rt: HostRuntime) -> Result<(), Fail> {
               {\"shape\":4,\"width\":1,\"height\":1,\"hot\":[0,0],\"bytes\":\"0f0f0fff0\"}]}",
             "NotScript",
         ),
+        (
+            b"{\"modes\":[[1,1,1]],\"capacity\":9,\"privileged\":[7],\"clients\":[1],\"steps\":[],\
+              \"privileged\":[],\"modes\":[[2,1,1]]}",
+            "Script { spec: Spec { modes: Modes { items: [Mode { width: 2, height: 1, rotation: Identity }] }, \
+             capacity: 9, privileged: Apps { items: [] } }, clients: Apps { items: [1] }, \
+             steps: Steps { items: [] } }",
+        ),
+        (b"[1e300]", "NotScript"),
+        (b"[1e400]", "NotJson"),
         (b"", "NotJson"),
         (b"\"\xff\"", "NotJson"),
     ];

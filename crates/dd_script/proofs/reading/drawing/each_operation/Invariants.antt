@@ -1,5 +1,5 @@
 use Rattle.std.proofs.Common.{◌≡◌, length, map}
-use Rattle.serde_json.specs.View.{view}
+use Rattle.dd_script.specs.Tree.{tree_data}
 use Rattle.dd_script.specs.Script.{each, operation_of}
 use Rattle.dd_script.proofs.Each.{with_front, left}
 use Rattle.dd_script.proofs.reading.drawing.each_operation.Given as goal
@@ -7,4 +7,4 @@ use Rattle.dd_script.proofs.reading.drawing.each_operation.Given as goal
 abbrev pub invariant-loop-tree : goal.invariant-loop-tree
 invariant-loop-tree l =
     (length l.ops ≡ l.tree-index)
-    × (with_front l.ops (left operation_of l.trees l.tree-index) ≡ each operation_of (map view l.trees))
+    × (with_front l.ops (left operation_of l.trees l.tree-index) ≡ each operation_of (map tree_data l.trees))

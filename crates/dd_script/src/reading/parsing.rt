@@ -1,0 +1,54 @@
+//! The tree of a text.
+
+ghost use Rattle.dd_script.specs.Reading.{ReadsTree};
+ghost use Rattle.dd_script.specs.Tree.{Values};
+
+use crate::fault::ScriptFault;
+use crate::reading::numbers::has_numbers;
+use crate::reading::tree::Tree;
+use json::{Error, Reader, Scratch, Value};
+use std::alloc::Global;
+
+/// The most that arrays and objects nest in a tree.
+const MAX_DEPTH: usize = 127;
+
+/// The one value of a text.
+fn value_of<'a>(
+    alloc: Global,
+    text: &'a str,
+    scratch: &'a mut Scratch,
+) -> Result<Tree<'a>, ScriptFault>
+    ensures { Values result text.now }
+{
+    let Ok(mut reader) = Reader::new(text, scratch) else {
+        return Err(ScriptFault::OutOfMemory);
+    };
+    let tree = match Value::read(alloc, &mut reader, MAX_DEPTH) {
+        Ok(tree) => tree,
+        Err(Error::OutOfMemory) => return Err(ScriptFault::OutOfMemory),
+        Err(_) => return Err(ScriptFault::NotJson),
+    };
+    if reader.next().is_some() {
+        return Err(ScriptFault::NotJson);
+    }
+    Ok(tree)
+}
+
+/// The tree of a JSON text.
+pub fn tree_of<'a>(
+    alloc: Global,
+    bytes: &'a [u8],
+    scratch: &'a mut Scratch,
+) -> Result<Tree<'a>, ScriptFault>
+    ensures { ReadsTree result bytes.now }
+{
+    let Ok(text) = std::str::from_utf8(bytes) else {
+        return Err(ScriptFault::NotJson);
+    };
+    let tree = value_of(alloc, text, scratch)?;
+    if has_numbers(&tree) {
+        Ok(tree)
+    } else {
+        Err(ScriptFault::NotJson)
+    }
+}
