@@ -7,6 +7,7 @@ pub mod Drawing
 pub mod Clients
 pub mod Holding
 pub mod Looking
+pub mod Asking
 pub mod Opening
 pub mod Openings
 pub mod Looked

@@ -10,6 +10,7 @@ ghost use Rattle.dd_board.specs.Seats.{seeing, IsCall};
 ghost use Rattle.dd_board.specs.Clients.{memory, MayStand};
 ghost use Rattle.dd_board.specs.Holding.{held_dup, MayHold};
 ghost use Rattle.dd_board.specs.Opening.{opened_answer, held_after, closed_answer, held_closed, held_slot};
+ghost use Rattle.dd_board.specs.Asking.{dup_info, look_answer};
 ghost use Rattle.dd_board.specs.Looking.{IsLook};
 ghost use Rattle.dd_board.specs.Looked.{IsLooked};
 ghost use Rattle.dd_board.specs.Openings.{opening_entry, opening_answer, opening_memory, closing_entry, closing_answer, closing_dup, slot_of};
@@ -17,11 +18,11 @@ ghost use Rattle.dd_board.specs.Openings.{opening_entry, opening_answer, opening
 use crate::actor::Actor;
 use crate::door::Door;
 use crate::holding::Holding;
-use crate::looking::{Call, LookAnswer, Looked, ask};
+use crate::looking::{Asked, Call, LookAnswer, Looked, ask, frame_of};
 use crate::named::Named;
 use crate::screen::Screen;
 use crate::told::Told;
-use dd_dup::Dup;
+use dd_dup::{Dup, FrameInfo};
 use dd_log::{Answer, CloseRefusal, Log, OpenRefusal};
 use std::alloc::{AllocError, Global};
 use std::marker::Model;
@@ -67,15 +68,38 @@ pub struct Tried<L: Named> {
 ///
 /// A call of its own, so that its answer is written once, before the board is left.
 #[inline(never)]
-fn ask_any(held: &mut Option<Holding>, log: &Log, call: Call, buffer: &mut [u8]) -> LookAnswer
+fn ask_any(held: &mut Option<Holding>, log: &Log, call: Call, buffer: &mut [u8]) -> Asked
     requires { MayHold held.old log.now }
-    ensures answer { IsLook result call (memory (held_dup held.old)) (memory (held_dup held.new))
-        log.now buffer.old buffer.new }
+    ensures answer { IsLook (look_answer result (dup_info (memory (held_dup held.new)))) call
+        (memory (held_dup held.old)) (memory (held_dup held.new)) log.now buffer.old buffer.new }
     ensures held { MayHold held.new log.now }
 {
     match held {
-        None => LookAnswer::NoDuplicator,
+        None => Asked::NoDuplicator,
         Some(holding) => ask(&mut holding.dup, log, call, buffer),
+    }
+}
+
+/// The info of the frame that is held.
+fn info_of(held: &Option<Holding>) -> Option<FrameInfo>
+    ensures { result ≡ dup_info (memory (held_dup held.now)) }
+{
+    match held {
+        None => None,
+        Some(holding) => holding.dup.info(),
+    }
+}
+
+/// What a look is answered. The info of the held frame is read only where it was acquired.
+fn answer_of(asked: Asked, held: &Option<Holding>) -> LookAnswer
+    ensures { result ≡ look_answer asked (dup_info (memory (held_dup held.now))) }
+{
+    match asked {
+        Asked::Acquired => frame_of(info_of(held)),
+        Asked::Released => LookAnswer::Released,
+        Asked::Size(size) => LookAnswer::Size(size),
+        Asked::Refused(cause) => LookAnswer::Refused(cause),
+        Asked::NoDuplicator => LookAnswer::NoDuplicator,
     }
 }
 
@@ -224,10 +248,18 @@ impl<L: Named> Client<L> {
         match door.enter(self.actor.view()) {
             Ok(inside) => {
                 let told = inside.told().again();
-                let answer = ask_any(&mut self.held, inside.log(), call, buffer);
+                let asked = ask_any(&mut self.held, inside.log(), call, buffer);
                 self.door = Some(inside.leave());
                 let place = told.front();
                 self.actor.see(told);
+                // Returned at once: where nothing is new, no room for a frame's info is copied.
+                if let Asked::Refused(cause) = asked {
+                    return Looked {
+                        place,
+                        answer: LookAnswer::Refused(cause),
+                    };
+                }
+                let answer = answer_of(asked, &self.held);
                 Looked { place, answer }
             }
             Err(door) => {

@@ -1,7 +1,10 @@
 //! A look of a client: what it asks, and what it is answered.
 
-ghost use Rattle.std.specs.Prelude.{◌≡◌};
+ghost use Rattle.std.specs.Prelude.{◌≡◌, Option};
+ghost use Rattle.dd_log.specs.declared.answers.FrameInfo.{FrameInfo};
+ghost use Rattle.dd_dup.specs.News.{held_info};
 ghost use Rattle.dd_dup.specs.Stands.{Stands};
+ghost use Rattle.dd_board.specs.Asking.{frame_answer, look_answer};
 ghost use Rattle.dd_board.specs.Looking.{release_look, buffer_look, IsAcquired, IsReply};
 
 use dd_dup::{Dup, DupRefusal, FrameInfo};
@@ -43,43 +46,67 @@ pub struct Looked {
     pub answer: LookAnswer,
 }
 
+/// What a duplicator answered, in few bytes: the info of an acquired frame stays with the frame.
+#[derive(Clone, Copy, Debug, PartialEq, Eq)]
+pub(crate) enum Asked {
+    /// The answer is the info of the frame that the duplicator now holds.
+    Acquired,
+    Released,
+    /// So many bytes stand at the buffer's front.
+    Size(u32),
+    Refused(DupRefusal),
+    /// The client has none.
+    NoDuplicator,
+}
+
+/// What is told of the held frame as a look's answer. After an acquire that gave a frame there is one.
+pub(crate) fn frame_of(info: Option<FrameInfo>) -> LookAnswer
+    ensures { result ≡ frame_answer info }
+{
+    match info {
+        None => LookAnswer::NoDuplicator,
+        Some(info) => LookAnswer::Frame(info),
+    }
+}
+
 /// A release as an answer.
-fn release_of(released: Result<(), DupRefusal>) -> LookAnswer
-    ensures { result ≡ release_look released }
+fn release_of(released: Result<(), DupRefusal>) -> Asked
+    ensures { (info : Option FrameInfo) → look_answer result info ≡ release_look released }
 {
     match released {
-        Ok(()) => LookAnswer::Released,
-        Err(cause) => LookAnswer::Refused(cause),
+        Ok(()) => Asked::Released,
+        Err(cause) => Asked::Refused(cause),
     }
 }
 
 /// What was put into a buffer as an answer.
-fn buffer_of(size: Result<u32, DupRefusal>) -> LookAnswer
-    ensures { result ≡ buffer_look size }
+fn buffer_of(size: Result<u32, DupRefusal>) -> Asked
+    ensures { (info : Option FrameInfo) → look_answer result info ≡ buffer_look size }
 {
     match size {
-        Ok(size) => LookAnswer::Size(size),
-        Err(cause) => LookAnswer::Refused(cause),
+        Ok(size) => Asked::Size(size),
+        Err(cause) => Asked::Refused(cause),
     }
 }
 
 /// An acquire.
-fn acquire(dup: &mut Dup, log: &Log) -> LookAnswer
+fn acquire(dup: &mut Dup, log: &Log) -> Asked
     requires { Stands dup.old log.now }
-    ensures answer { IsAcquired result dup.old.memory dup.new.memory log.now }
+    ensures answer { IsAcquired (look_answer result (held_info dup.new.memory.held))
+        dup.old.memory dup.new.memory log.now }
     ensures stands { Stands dup.new log.now }
 {
     match dup.acquire(log) {
-        Ok(info) => LookAnswer::Frame(info),
-        Err(cause) => LookAnswer::Refused(cause),
+        Ok(_info) => Asked::Acquired,
+        Err(cause) => Asked::Refused(cause),
     }
 }
 
 /// Asks a duplicator.
-pub(crate) fn ask(dup: &mut Dup, log: &Log, call: Call, buffer: &mut [u8]) -> LookAnswer
+pub(crate) fn ask(dup: &mut Dup, log: &Log, call: Call, buffer: &mut [u8]) -> Asked
     requires { Stands dup.old log.now }
-    ensures answer { IsReply result call dup.old.memory dup.new.memory log.now
-        buffer.old buffer.new }
+    ensures answer { IsReply (look_answer result (held_info dup.new.memory.held)) call
+        dup.old.memory dup.new.memory log.now buffer.old buffer.new }
     ensures place { dup.new.memory.opened ≡ dup.old.memory.opened }
     ensures stands { Stands dup.new log.now }
 {

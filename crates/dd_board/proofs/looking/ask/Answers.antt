@@ -3,5 +3,4 @@ use Rattle.dd_board.proofs.looking.ask.Goals as goal
 
 pub returns-in-Acquire-clause-place : goal.returns-in-Acquire-clause-place
 returns-in-Acquire-clause-place c =
-    acquired_opened c.acquire.result c.args.dup.now.memory c.acquire.new.dup.memory c.args.log.now
-    c.acquire.ensures.answer
+    acquired_opened _ c.args.dup.now.memory c.acquire.new.dup.memory c.args.log.now c.acquire.ensures.answer

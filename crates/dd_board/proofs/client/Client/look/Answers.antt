@@ -6,8 +6,8 @@ use Rattle.dd_board.specs.Holding.{MayHold}
 use Rattle.dd_board.proofs.Standing.{may_hold_later}
 use Rattle.dd_board.proofs.client.Client.look.Goals as goal
 
-pub ask_any-answer-requires : goal.ask_any-answer-requires
-ask_any-answer-requires g c =
+pub ask_any-asked-requires : goal.ask_any-asked-requires
+ask_any-asked-requires g c =
     subst (λ (h : History). MayHold c.self.inside.held h) (sym c.log.ensures)
     (may_hold_later c.self.inside.held g.L.Named.spec c.self.inside.actor.view c.in-Ok.inside.1
     (subst (λ (l : List Entry). IsPrefix l c.in-Ok.inside.1) c.view.ensures c.in-Ok.ensures.1) c.self.invariant.1)
