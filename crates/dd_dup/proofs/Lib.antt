@@ -1,3 +1,5 @@
+pub mod Covering
+pub mod Fills
 pub mod Buffers
 pub mod Entries
 pub mod Advance

@@ -5,3 +5,5 @@ pub mod Stands
 pub mod Dup
 pub mod Walk
 pub mod Veil
+pub mod Seen
+pub mod Filling

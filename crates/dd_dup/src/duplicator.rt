@@ -376,8 +376,8 @@ impl Dup {
         }
     }
 
-    /// How many entries were drawn on the surface since the opening, each of them once: those from
-    /// where the desk's picture began up to the mark.
+    /// How many entries were handed to the surface since the opening, each of them once: those from
+    /// where the desk's picture began up to the mark. Those that are drawn over as a whole are counted too.
     pub fn folded(&self) -> u64
         ensures { result ≡ self.now.folded }
     {

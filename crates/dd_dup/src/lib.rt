@@ -1,6 +1,8 @@
 //! One duplicator: it acquires frames of the list at its own pace.
 #![tactic(auto)]
 
+mod anew;
+mod bands;
 mod calls;
 mod duplicator;
 mod forward;
