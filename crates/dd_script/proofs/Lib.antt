@@ -22,3 +22,4 @@ pub mod WholeNumbers
 pub mod LineFeed
 pub mod TreeBack
 pub mod LineBack
+pub mod Pieces

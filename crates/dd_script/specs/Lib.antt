@@ -4,3 +4,4 @@ pub mod Reading
 pub mod Answers
 pub mod Texts
 pub mod Spelling
+pub mod Pieces

@@ -6,67 +6,47 @@ mod limits;
 mod numbers;
 mod output;
 mod parsing;
+mod pieces;
 mod pointer;
 #[cfg(test)]
 mod tests;
 mod tree;
+mod whole;
 
 ghost use Rattle.std.specs.Prelude.{◌≡◌, ◌<◌, ℕ, List, length, IfOk, IsTrue, Some};
 ghost use Rattle.serde_json.specs.Data.{Data};
-ghost use Rattle.dd_script.specs.Tree.{tree_data};
-ghost use Rattle.dd_script.specs.Reading.{IsJson, Gives, Reads};
+ghost use Rattle.dd_script.specs.Reading.{IsJson, Reads};
 ghost use Rattle.dd_station.specs.declared.steps.Script as scripts;
-ghost use Rattle.dd_script.specs.Script.{parts_of, script_of, IsRunnable};
+ghost use Rattle.dd_script.specs.Script.{script_of, IsRunnable};
 ghost use Rattle.dd_script.specs.Spelling.{is_readable, IsReadBack};
 
 use crate::fault::ScriptFault;
-use crate::reading::calls::steps_of;
-use crate::reading::limits::keeps_limits;
-use crate::reading::output::{apps_of, modes_of};
 use crate::reading::parsing::tree_of;
-use crate::reading::tree::{Tree, has_keys, member, u32_of};
+use crate::reading::pieces::script_by_pieces;
+use crate::reading::whole::script_of;
 pub use calls::MAX_BUFFER;
-use dd_log::Spec;
 use dd_station::Script;
 use json::Scratch;
 use std::alloc::Global;
 
-/// `{"modes":modes,"capacity":capacity,"privileged":[applications],"clients":[applications],
-/// "steps":[steps]}`.
-#[tactic(auto, unfolding(crate::specs::Script::parts_of))]
-fn parts_of(alloc: Global, tree: &Tree<'_>) -> Result<Script, ScriptFault>
-    ensures { Gives (λ s. s) result (parts_of (tree_data tree.now)) }
+/// The script that a text is, read as one tree.
+fn script_at_once(alloc: Global, text: &str, scratch: &mut Scratch) -> Result<Script, ScriptFault>
+    ensures { Reads result text.now }
 {
-    if !has_keys(tree, 5) {
-        return Err(ScriptFault::NotScript);
-    }
-    let modes = modes_of(alloc, member(tree, "modes")?)?;
-    let capacity = u32_of(member(tree, "capacity")?).ok_or(ScriptFault::NotScript)?;
-    let privileged = apps_of(alloc, member(tree, "privileged")?)?;
-    let clients = apps_of(alloc, member(tree, "clients")?)?;
-    let steps = steps_of(alloc, member(tree, "steps")?)?;
-    let spec = Spec {
-        modes,
-        capacity,
-        privileged,
-    };
-    Ok(Script {
-        spec,
-        clients,
-        steps,
-    })
+    let tree = tree_of(alloc, text, scratch)?;
+    script_of(alloc, &tree)
 }
 
-/// The script that a tree is.
-#[tactic(auto, unfolding(crate::specs::Script::script_of))]
-fn script_of(alloc: Global, tree: &Tree<'_>) -> Result<Script, ScriptFault>
-    ensures { Gives (λ s. s) result (script_of (tree_data tree.now)) }
+/// The script that a text is: a step at a time where the steps come last, else as one tree.
+fn script_of_text(alloc: Global, text: &str) -> Result<Script, ScriptFault>
+    ensures { Reads result text.now }
 {
-    let script = parts_of(alloc, tree)?;
-    if keeps_limits(&script) {
-        Ok(script)
-    } else {
-        Err(ScriptFault::NotScript)
+    let mut scratch = Scratch::new(alloc);
+    match script_by_pieces(alloc, text, &mut scratch) {
+        Ok(script) => Ok(script),
+        Err(ScriptFault::OutOfMemory) => Err(ScriptFault::OutOfMemory),
+        // Written in another form, or no script.
+        Err(_) => script_at_once(alloc, text, &mut scratch),
     }
 }
 
@@ -80,9 +60,10 @@ pub fn read_steps(alloc: Global, bytes: &[u8]) -> Result<Script, ScriptFault>
     ensures whole { IfOk result (λ s. IsRunnable s) }
     ensures count { IfOk result (λ s. length s.steps < length bytes.now) }
 {
-    let mut scratch = Scratch::new(alloc);
-    let tree = tree_of(alloc, bytes, &mut scratch)?;
-    script_of(alloc, &tree)
+    let Ok(text) = std::str::from_utf8(bytes) else {
+        return Err(ScriptFault::NotJson);
+    };
+    script_of_text(alloc, text)
 }
 
 /// Bytes are the text of at most one tree.

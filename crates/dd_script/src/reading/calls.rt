@@ -105,7 +105,7 @@ fn call_of(tree: &Tree<'_>) -> Option<Step>
 
 /// A call where there is a client, else a drawing.
 #[tactic(auto, unfolding(crate::specs::Script::step_of))]
-fn step_of(alloc: Global, tree: &Tree<'_>) -> Result<Step, ScriptFault>
+pub fn step_of(alloc: Global, tree: &Tree<'_>) -> Result<Step, ScriptFault>
     ensures { Gives (λ s. s) result (step_of (tree_data tree.now)) }
 {
     if get(tree, "client").is_some() {

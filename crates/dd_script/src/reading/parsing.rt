@@ -10,7 +10,7 @@ use json::{Error, Reader, Scratch, Value};
 use std::alloc::Global;
 
 /// The most that arrays and objects nest in a tree.
-const MAX_DEPTH: usize = 127;
+pub const MAX_DEPTH: usize = 127;
 
 /// The one value of a text.
 fn value_of<'a>(
@@ -37,14 +37,11 @@ fn value_of<'a>(
 /// The tree of a JSON text.
 pub fn tree_of<'a>(
     alloc: Global,
-    bytes: &'a [u8],
+    text: &'a str,
     scratch: &'a mut Scratch,
 ) -> Result<Tree<'a>, ScriptFault>
-    ensures { ReadsTree result bytes.now }
+    ensures { ReadsTree result text.now }
 {
-    let Ok(text) = std::str::from_utf8(bytes) else {
-        return Err(ScriptFault::NotJson);
-    };
     let tree = value_of(alloc, text, scratch)?;
     if has_numbers(&tree) {
         Ok(tree)

@@ -14,7 +14,7 @@ fn told(alloc: Global, text: &[u8]) -> Result<String, AllocError> {
 
 #[test]
 fn texts(rt: HostRuntime) -> Result<(), Fail> {
-    let cases: [(&[u8], &str); 8] = [
+    let cases: [(&[u8], &str); 10] = [
         (
             b"{\"modes\":[[4,3,1],[3,4,0]],\"capacity\":100,\"privileged\":[9],\"clients\":[1,9],\
               \"steps\":[{\"client\":1,\"call\":\"duplicate\"},{\"present\":[\
@@ -72,6 +72,21 @@ fn texts(rt: HostRuntime) -> Result<(), Fail> {
             "Script { spec: Spec { modes: Modes { items: [Mode { width: 2, height: 1, rotation: Identity }] }, \
              capacity: 9, privileged: Apps { items: [] } }, clients: Apps { items: [1] }, \
              steps: Steps { items: [] } }",
+        ),
+        (
+            b"{\"modes\":[[1,1,1]],\"capacity\":9,\"privileged\":[7],\"clients\":[1],\"privileged\":[],\
+              \"steps\":[{\"mode\":7},{\"client\":1,\"call\":\"close\"}]}",
+            "Script { spec: Spec { modes: Modes { items: [Mode { width: 1, height: 1, rotation: Identity }] }, \
+             capacity: 9, privileged: Apps { items: [] } }, clients: Apps { items: [1] }, \
+             steps: Steps { items: [Draw(Mode { index: 7 }), Call { client: 1, call: Close }] } }",
+        ),
+        (
+            b"{\"modes\":[[1,1,1]],\"capacity\":9,\"privileged\":[],\"clients\":[1],\
+              \"steps\":[{\"mode\":8},{\"reconnect\":true}],\
+              \"steps\":[{\"mode\":7},{\"client\":1,\"call\":\"close\"}]}",
+            "Script { spec: Spec { modes: Modes { items: [Mode { width: 1, height: 1, rotation: Identity }] }, \
+             capacity: 9, privileged: Apps { items: [] } }, clients: Apps { items: [1] }, \
+             steps: Steps { items: [Draw(Mode { index: 7 }), Call { client: 1, call: Close }] } }",
         ),
         (b"[1e300]", "NotScript"),
         (b"[1e400]", "NotJson"),
