@@ -6,6 +6,10 @@ use std::fmt;
 /// What a thread counted, or all of them.
 #[derive(Clone, Copy, Debug, PartialEq, Eq)]
 pub struct Count {
+    /// How many looks were made.
+    pub looks: u64,
+    /// How many clients got a frame.
+    pub seen: u64,
     /// How many looks weren't let in, or drawings were refused.
     pub refused: u64,
     /// How many entries the longest list had.
@@ -15,21 +19,34 @@ pub struct Count {
 impl Count {
     /// Of nobody.
     pub const NONE: Count = Count {
+        looks: 0,
+        seen: 0,
         refused: 0,
         front: 0,
     };
 
-    /// Of one call.
-    pub fn of(is_refused: bool, front: u64) -> Count {
+    /// Of one drawing.
+    pub fn of_drawing(is_refused: bool, front: u64) -> Count {
         Count {
             refused: u64::from(is_refused),
             front,
+            ..Count::NONE
+        }
+    }
+
+    /// Of so many looks.
+    pub fn of_looks(looks: u32) -> Count {
+        Count {
+            looks: u64::from(looks),
+            ..Count::NONE
         }
     }
 
     /// Of both.
     pub fn with(self, other: Count) -> Count {
         Count {
+            looks: self.looks.saturating_add(other.looks),
+            seen: self.seen.saturating_add(other.seen),
             refused: self.refused.saturating_add(other.refused),
             front: self.front.max(other.front),
         }
@@ -47,6 +64,7 @@ pub fn total(counts: Vec<Result<Count, AllocError>>) -> Result<Count, AllocError
 
 impl fmt::Display for Count {
     fn fmt<W: fmt::Write>(&self, f: &mut fmt::Formatter<W>) -> fmt::Result {
+        write!(f, "{} looks, {} saw a frame, ", self.looks, self.seen)?;
         write!(f, "{} refused, {} entries", self.refused, self.front)
     }
 }

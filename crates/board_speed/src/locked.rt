@@ -1,14 +1,14 @@
 //! The same looks at a list under a lock, which readers share.
 
 ghost use Rattle.std.specs.Prelude.{◌≡◌, ◌+◌, ◌-◌, ◌^◌, ◌≤◌, ◌<◌, length, OnOk, OnErr};
-ghost use Rattle.dd_station.specs.Run.{IsOfClient};
+ghost use Rattle.dd_calls.specs.Calls.{IsOfClient};
 
 use crate::count::{Count, total};
 use crate::plan::Plan;
 use crate::setting::{MAX_DRAWINGS, fill, pause, spec};
 use dd_board::MAX_SEATS;
-use dd_log::DupRefusal;
-use dd_station::{ClientCall, Station, Step};
+use dd_calls::{ClientCall, Step};
+use dd_station::Station;
 use std::alloc::{AllocError, Global};
 use std::sync::{RwLock, Wait};
 use std::thread;
@@ -79,10 +79,7 @@ impl Locked {
     fn has_news(&self) -> bool {
         match self.station.dup(1) {
             None => false,
-            Some(dup) => !matches!(
-                dup.next_news(self.station.log()),
-                Err(DupRefusal::WaitTimeout)
-            ),
+            Some(dup) => dup.has_news(self.station.log()),
         }
     }
 }
@@ -107,15 +104,24 @@ fn work<R: Wait>(
         for _ in 0..plan.looks {
             look_once(rt, shared)?;
         }
-        return Ok(Count::NONE);
+        return Ok(Count::of_looks(plan.looks));
     }
     for _ in 0..plan.drawings {
         shared.write(rt).draw(alloc)?;
         pause(plan.turns);
     }
     Ok(Count {
-        refused: 0,
         front: shared.read(rt).station.log().len(),
+        ..Count::NONE
+    })
+}
+
+/// A last look, once all is drawn. Where nothing is new then, the client got a frame.
+fn look_at_last<R: Wait>(rt: &R, shared: &RwLock<Locked>) -> Result<Count, AllocError> {
+    look_once(rt, shared)?;
+    Ok(Count {
+        seen: u64::from(!shared.read(rt).has_news()),
+        ..Count::of_looks(1)
     })
 }
 
@@ -132,5 +138,5 @@ pub fn run<R: Threads + Wait + Sync>(
     let shared = RwLock::new(Locked::start(alloc, plan.drawings)?);
     let threads = clients as usize + 1;
     let counts = thread::map_indices(rt, alloc, threads, &|i| work(rt, alloc, &shared, plan, i))?;
-    total(counts)
+    Ok(total(counts)?.with(look_at_last(rt, &shared)?))
 }

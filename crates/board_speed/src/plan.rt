@@ -40,6 +40,17 @@ impl Plan {
         }
     }
 
+    /// As many looks of each client as drawings.
+    fn of_both(calls: u32) -> Plan
+        ensures { result.drawings ≡ calls }
+    {
+        Plan {
+            looks: calls,
+            drawings: calls,
+            turns: 0,
+        }
+    }
+
     /// Drawings alone.
     fn of_drawings(drawings: u32) -> Plan
         ensures { result.drawings ≡ drawings }
@@ -53,15 +64,54 @@ impl Plan {
 }
 
 impl Task {
+    /// The plan of the task.
+    fn plan(self) -> Plan
+        requires { self.kind ≡ Kind.Draw → self.calls ≤ MAX_DRAWINGS }
+        ensures { result.drawings ≤ MAX_DRAWINGS }
+    {
+        match self.kind {
+            Kind::Look | Kind::Lock => Plan::of_looks(self.calls),
+            Kind::Draw => Plan::of_drawings(self.calls),
+        }
+    }
+
+    /// Does what a plan says.
+    fn follow<R: Threads + Wait + Sync>(
+        self,
+        rt: &R,
+        alloc: Global,
+        plan: Plan,
+    ) -> Result<Count, AllocError>
+        requires clients { self.clients < MAX_SEATS }
+        requires drawings { plan.drawings ≤ MAX_DRAWINGS }
+    {
+        match self.kind {
+            Kind::Look | Kind::Draw => seated::run(rt, alloc, plan, self.clients),
+            Kind::Lock => locked::run(rt, alloc, plan, self.clients),
+        }
+    }
+
     /// Does it.
     pub fn run<R: Threads + Wait + Sync>(self, rt: &R, alloc: Global) -> Result<Count, AllocError>
         requires clients { self.clients < MAX_SEATS }
         requires drawings { self.kind ≡ Kind.Draw → self.calls ≤ MAX_DRAWINGS }
     {
-        match self.kind {
-            Kind::Look => seated::run(rt, alloc, Plan::of_looks(self.calls), self.clients),
-            Kind::Lock => locked::run(rt, alloc, Plan::of_looks(self.calls), self.clients),
-            Kind::Draw => seated::run(rt, alloc, Plan::of_drawings(self.calls), self.clients),
-        }
+        self.follow(rt, alloc, self.plan())
+    }
+
+    /// Does it, with as many looks of each client, where they look, as drawings.
+    pub fn run_beside<R: Threads + Wait + Sync>(
+        self,
+        rt: &R,
+        alloc: Global,
+    ) -> Result<Count, AllocError>
+        requires clients { self.clients < MAX_SEATS }
+        requires drawings { self.calls ≤ MAX_DRAWINGS }
+    {
+        let plan = match self.kind {
+            Kind::Look | Kind::Lock => Plan::of_both(self.calls),
+            Kind::Draw => Plan::of_drawings(self.calls),
+        };
+        self.follow(rt, alloc, plan)
     }
 }

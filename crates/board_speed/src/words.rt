@@ -48,6 +48,19 @@ fn kind_of(word: &str) -> Option<Kind> {
     }
 }
 
+/// How many clients there are, at most 31, and how many calls.
+fn numbers_of(clients: &str, calls: &str, most: u32) -> Option<(u32, u32)>
+    ensures clients { IfSome result (λ pair. pair.0 < MAX_SEATS) }
+    ensures calls { IfSome result (λ pair. pair.1 ≤ most) }
+{
+    let clients: u32 = clients.parse().ok()?;
+    let calls: u32 = calls.parse().ok()?;
+    if clients as usize >= MAX_SEATS || calls > most {
+        return None;
+    }
+    Some((clients, calls))
+}
+
 /// The task of the words after the program's name: a kind, how many clients there are, at most 31,
 /// and how many calls, of drawings at most 1,000,000.
 pub fn task_of(words: &[String]) -> Option<Task>
@@ -58,18 +71,28 @@ pub fn task_of(words: &[String]) -> Option<Task>
         return None;
     };
     let kind = kind_of(kind.as_str())?;
-    let clients: u32 = clients.parse().ok()?;
-    let calls: u32 = calls.parse().ok()?;
     let most = match kind {
         Kind::Look | Kind::Lock => u32::MAX,
         Kind::Draw => MAX_DRAWINGS,
     };
-    if clients as usize >= MAX_SEATS || calls > most {
-        return None;
-    }
+    let (clients, calls) = numbers_of(clients.as_str(), calls.as_str(), most)?;
     Some(Task {
         kind,
         clients,
         calls,
     })
+}
+
+/// How many clients and calls a check has, whose words are `check` and these two numbers.
+pub fn check_of(words: &[String]) -> Option<(u32, u32)>
+    ensures clients { IfSome result (λ pair. pair.0 < MAX_SEATS) }
+    ensures calls { IfSome result (λ pair. pair.1 ≤ MAX_DRAWINGS) }
+{
+    let [_name, kind, clients, calls] = words else {
+        return None;
+    };
+    if kind.as_str() != "check" {
+        return None;
+    }
+    numbers_of(clients.as_str(), calls.as_str(), MAX_DRAWINGS)
 }

@@ -5,8 +5,6 @@ mod hidden;
 mod interval;
 mod laws;
 mod lists;
-#[cfg(test)]
-mod tests;
 
 pub use hidden::hide;
 pub use interval::{Acc, MAX_MOVES};

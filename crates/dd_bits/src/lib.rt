@@ -6,8 +6,6 @@ mod commands;
 mod laws;
 mod plane;
 mod runs;
-#[cfg(test)]
-mod tests;
 mod tiling;
 
 pub use area::Area;

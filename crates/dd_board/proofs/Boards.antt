@@ -1,7 +1,7 @@
 -- The seats of some roles, one more at a time.
 use Rattle.std.proofs.Common.{◌≡◌, ℕ, ◌+◌, ◌<◌, List, [], ◌∷◌, ◌++◌, length, take, get_or, ap, ◌∙◌, arith}
 use Rattle.std.proofs.lemmas.List.{take_more, length-take-le}
-use Rattle.dd_log.specs.declared.answers.Role.{Role}
+use Rattle.dd_calls.specs.declared.answers.Role.{Role}
 use Rattle.dd_board.specs.declared.board.Seat.{Seat}
 use Rattle.dd_board.specs.Boards.{seat_of, seats_from}
 

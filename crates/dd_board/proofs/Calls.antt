@@ -4,7 +4,7 @@ use Rattle.std.specs.Prelude.{IsTrue, is_none}
 use Rattle.std.proofs.lemmas.Bool.{lt-ltb, cond-false}
 use Rattle.std.proofs.lemmas.List.{take-append-le, take_all}
 use mathlib.Core.List.{IsPrefix}
-use Rattle.dd_log.specs.declared.answers.LogRefusal.{LogRefusal}
+use Rattle.dd_log.specs.declared.refusal.LogRefusal.{LogRefusal}
 use Rattle.dd_log.specs.declared.events.TheConstants.{MAX_ACTORS}
 use Rattle.dd_log.specs.declared.events.Spec.{Spec}
 use Rattle.dd_log.specs.declared.events.Entry.{Entry}

@@ -2,10 +2,10 @@
 use Rattle.std.proofs.Common.{◌≡◌, ℕ, ◌+◌, List, [], ◌∷◌, length, take, drop, Option, Some, None, Result, Ok, Err, refl, sym, ap, ◌∙◌, subst, arith, length-append}
 use mathlib.Core.List.{IsPrefix}
 use Rattle.std.proofs.lemmas.List.{take-append-drop, length-take-le}
-use Rattle.dd_log.specs.declared.answers.Answer.{Answer}
-use Rattle.dd_log.specs.declared.answers.Answer.TheVariants as answers
-use Rattle.dd_log.specs.declared.answers.OpenRefusal.{OpenRefusal}
-use Rattle.dd_log.specs.declared.answers.CloseRefusal.{CloseRefusal}
+use Rattle.dd_calls.specs.declared.answers.Answer.{Answer}
+use Rattle.dd_calls.specs.declared.answers.Answer.TheVariants as answers
+use Rattle.dd_calls.specs.declared.answers.OpenRefusal.{OpenRefusal}
+use Rattle.dd_calls.specs.declared.answers.CloseRefusal.{CloseRefusal}
 use Rattle.dd_log.specs.declared.events.Spec.{Spec}
 use Rattle.dd_log.specs.declared.events.Entry.{Entry}
 use Rattle.dd_log.specs.History.{History}

@@ -4,8 +4,8 @@ use Rattle.std.specs.Prelude.{slice_get}
 use mathlib.Core.List.{IsPrefix}
 use Rattle.dd_log.specs.declared.events.Spec.{Spec}
 use Rattle.dd_log.specs.declared.events.Entry.{Entry}
-use Rattle.dd_log.specs.declared.answers.DupRefusal.{DupRefusal}
-use Rattle.dd_log.specs.declared.answers.DupRefusal.TheVariants.{AccessLost, InvalidCall, WaitTimeout, MoreData, OutOfMemory}
+use Rattle.dd_calls.specs.declared.answers.DupRefusal.{DupRefusal}
+use Rattle.dd_calls.specs.declared.answers.DupRefusal.TheVariants.{AccessLost, InvalidCall, WaitTimeout, MoreData, OutOfMemory}
 use Rattle.dd_log.specs.History.{History, Begins}
 use Rattle.dd_log.specs.Slots.{entry_slot}
 use Rattle.dd_dup.specs.declared.frame.Frame.{Frame}

@@ -1,6 +1,6 @@
 -- What a duplicator answered, as a look's answer. No public clause names it.
 use Rattle.std.specs.Prelude.{Option, Some, None}
-use Rattle.dd_log.specs.declared.answers.FrameInfo.{FrameInfo}
+use Rattle.dd_calls.specs.declared.answers.FrameInfo.{FrameInfo}
 use Rattle.dd_dup.specs.News.{held_info}
 use Rattle.dd_dup.specs.Reply.{Memory}
 use Rattle.dd_board.specs.declared.looking.Asked.{Asked}

@@ -1,7 +1,7 @@
 -- What contracts see of a board before and after it has a name.
 use Rattle.std.specs.Prelude.{ℕ, ◌+◌, List, [], ◌∷◌}
-use Rattle.dd_log.specs.declared.answers.Role.{Role}
-use Rattle.dd_log.specs.declared.answers.Role.TheVariants as roles
+use Rattle.dd_calls.specs.declared.answers.Role.{Role}
+use Rattle.dd_calls.specs.declared.answers.Role.TheVariants as roles
 use Rattle.dd_board.specs.declared.board.Seat.{Seat}
 use Rattle.dd_board.specs.declared.board.Seat.TheVariants as seats
 use Rattle.dd_board.specs.Seats.{fresh_seat}

@@ -1,8 +1,8 @@
 -- What a look answers.
 use Rattle.std.specs.Prelude.{◌≡◌, ℕ, ◌+◌, ◌-◌, ◌^◌, min, List, Option, Some, None, Result, Ok, Err, IsOk}
-use Rattle.dd_log.specs.declared.answers.FrameInfo.{FrameInfo}
-use Rattle.dd_log.specs.declared.answers.DupRefusal.{DupRefusal}
-use Rattle.dd_log.specs.declared.answers.DupRefusal.TheVariants.{OutOfMemory}
+use Rattle.dd_calls.specs.declared.answers.FrameInfo.{FrameInfo}
+use Rattle.dd_calls.specs.declared.answers.DupRefusal.{DupRefusal}
+use Rattle.dd_calls.specs.declared.answers.DupRefusal.TheVariants.{OutOfMemory}
 use Rattle.dd_log.specs.History.{History}
 use Rattle.dd_dup.specs.Reply.{Memory, told_info, acquire_reply, acquire_memory, release_reply, release_memory, moves_reply, dirty_reply, shape_reply, held_memory}
 use Rattle.dd_board.specs.declared.looking.Call.{Call}

@@ -1,11 +1,11 @@
 -- What is opened and closed on the locked list. No public clause names it.
 use Rattle.std.specs.Prelude.{◌≡◌, ℕ, take, Option, Some, None, option_map, Result, Ok, Err}
 use Rattle.std.specs.declared.alloc.AllocError.{AllocError}
-use Rattle.dd_log.specs.declared.answers.Answer.{Answer}
-use Rattle.dd_log.specs.declared.answers.Answer.TheVariants.{Opened, NotOpened, Closed, NotClosed}
+use Rattle.dd_calls.specs.declared.answers.Answer.{Answer}
+use Rattle.dd_calls.specs.declared.answers.Answer.TheVariants.{Opened, NotOpened, Closed, NotClosed}
 use Rattle.dd_log.specs.declared.events.Spec.{Spec}
-use Rattle.dd_log.specs.declared.answers.OpenRefusal.{OpenRefusal}
-use Rattle.dd_log.specs.declared.answers.CloseRefusal.{CloseRefusal}
+use Rattle.dd_calls.specs.declared.answers.OpenRefusal.{OpenRefusal}
+use Rattle.dd_calls.specs.declared.answers.CloseRefusal.{CloseRefusal}
 use Rattle.dd_log.specs.History.{History}
 use Rattle.dd_table.specs.Opening.{opening, closing}
 use Rattle.dd_dup.specs.Reply.{fresh_memory}

@@ -2,10 +2,10 @@
 use Rattle.std.specs.Prelude.{ℕ, ◌+◌, Option, Some, None, Result, Ok, Err}
 use Rattle.dd_log.specs.declared.events.Entry.{Entry}
 use Rattle.dd_log.specs.declared.events.Event.TheVariants as events
-use Rattle.dd_log.specs.declared.answers.Answer.{Answer}
-use Rattle.dd_log.specs.declared.answers.Answer.TheVariants.{Opened, NotOpened, Closed, NotClosed}
-use Rattle.dd_log.specs.declared.answers.OpenRefusal.{OpenRefusal}
-use Rattle.dd_log.specs.declared.answers.CloseRefusal.{CloseRefusal}
+use Rattle.dd_calls.specs.declared.answers.Answer.{Answer}
+use Rattle.dd_calls.specs.declared.answers.Answer.TheVariants.{Opened, NotOpened, Closed, NotClosed}
+use Rattle.dd_calls.specs.declared.answers.OpenRefusal.{OpenRefusal}
+use Rattle.dd_calls.specs.declared.answers.CloseRefusal.{CloseRefusal}
 use Rattle.dd_log.specs.History.{History}
 use Rattle.dd_log.specs.Slots.{slot_at}
 use Rattle.dd_dup.specs.Reply.{Memory, fresh_memory}

@@ -3,7 +3,7 @@ use Rattle.std.specs.Prelude.{◌≡◌, ℕ, List, [], ◌∷◌, ◌++◌, tak
 use Rattle.std.specs.declared.alloc.AllocError.{AllocError}
 use Rattle.dd_log.specs.declared.events.Spec.{Spec}
 use Rattle.dd_log.specs.declared.events.Entry.{Entry}
-use Rattle.dd_log.specs.declared.answers.LogRefusal.{LogRefusal}
+use Rattle.dd_log.specs.declared.refusal.LogRefusal.{LogRefusal}
 use Rattle.dd_log.specs.History.{refusal, verdict}
 use Rattle.dd_board.specs.Lists.{listed}
 use Rattle.dd_board.specs.Seats.{Seated, entering, entry_if, IsCall}

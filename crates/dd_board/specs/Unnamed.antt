@@ -3,7 +3,7 @@ use Rattle.std.specs.Prelude.{◌≡◌, ◌≤◌, ℕ, List, [], length}
 use Rattle.logbook.specs.Pages.{Book}
 use Rattle.dd_log.specs.declared.events.TheConstants.{MAX_CAPACITY}
 use Rattle.dd_log.specs.declared.events.Spec.{Spec}
-use Rattle.dd_log.specs.declared.answers.Role.{Role}
+use Rattle.dd_calls.specs.declared.answers.Role.{Role}
 use Rattle.dd_log.specs.History.{begun}
 use Rattle.dd_board.specs.Rules.{head_of}
 use Rattle.dd_board.specs.declared.board.TheConstants.{MAX_SEATS}

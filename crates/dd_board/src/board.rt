@@ -12,7 +12,7 @@ use crate::press::Press;
 use crate::published::{Op, Published, Sheet};
 use crate::screen::ScreenOf;
 use crate::told::Told;
-use dd_log::Role;
+use dd_calls::Role;
 use left_right::Absorb;
 use std::alloc::{AllocError, Global};
 use std::sync::Wait;

@@ -15,8 +15,6 @@ mod painter;
 mod press;
 mod published;
 mod screen;
-#[cfg(test)]
-mod tests;
 mod told;
 mod unnamed;
 

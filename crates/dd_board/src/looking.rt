@@ -1,13 +1,14 @@
 //! A look of a client: what it asks, and what it is answered.
 
 ghost use Rattle.std.specs.Prelude.{◌≡◌, Option};
-ghost use Rattle.dd_log.specs.declared.answers.FrameInfo.{FrameInfo};
+ghost use Rattle.dd_calls.specs.declared.answers.FrameInfo.{FrameInfo};
 ghost use Rattle.dd_dup.specs.News.{held_info};
 ghost use Rattle.dd_dup.specs.Stands.{Stands};
 ghost use Rattle.dd_board.specs.Asking.{frame_answer, look_answer};
 ghost use Rattle.dd_board.specs.Looking.{release_look, buffer_look, IsAcquired, IsReply};
 
-use dd_dup::{Dup, DupRefusal, FrameInfo};
+use dd_calls::{DupRefusal, FrameInfo};
+use dd_dup::Dup;
 use dd_log::Log;
 
 /// What a client asks its duplicator.

@@ -3,8 +3,6 @@
 
 mod coalescing;
 mod laws;
-#[cfg(test)]
-mod tests;
 
 pub use coalescing::{Coalesced, MAX_POWER, MAX_RECTS, coalesce};
 pub use laws::{least_power, rounding_is_near, rounding_keeps_points};

@@ -6,7 +6,7 @@ use Rattle.dd_geom.specs.declared.rect.Move.{Move}
 use Rattle.dd_meta.specs.Buffer.{bytes_of_moves, bytes_of_rects, put}
 use Rattle.dd_meta.specs.declared.buffer.TheConstants.{MOVES_BUFFER, RECTS_BUFFER}
 use Rattle.dd_meta.proofs.Sizes.{moves_fit, rects_fit}
-use Rattle.dd_log.specs.declared.answers.DupRefusal.{DupRefusal}
+use Rattle.dd_calls.specs.declared.answers.DupRefusal.{DupRefusal}
 use Rattle.dd_dup.specs.Reply.{put_answer, IsNotShort}
 
 not_short : (r : Result ℕ ℕ) → IsOk r → IsNotShort (put_answer r)

@@ -3,6 +3,9 @@ pub mod Fills
 pub mod Buffers
 pub mod Entries
 pub mod Advance
+pub mod Granting
+pub mod Standing
 pub mod Frames
 pub mod Loss
 pub mod Veiling
+pub mod Acquiring

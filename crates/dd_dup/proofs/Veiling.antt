@@ -14,17 +14,17 @@ use Rattle.dd_pointer.specs.Shape.{PointerShape}
 use Rattle.dd_acc.specs.Effects.{Effect, each_effects, settled, rounds, moves_in, moves, dirt, is_coalesced}
 use Rattle.dd_acc.proofs.Hiding.{none_hidden}
 use Rattle.dd_acc.proofs.Veiling.{each_effects-veiled}
-use Rattle.dd_log.specs.declared.answers.Answer.{Answer}
-use Rattle.dd_log.specs.declared.answers.Answer.TheVariants as answers
-use Rattle.dd_log.specs.declared.answers.DupRefusal.{DupRefusal}
-use Rattle.dd_log.specs.declared.answers.DupRefusal.TheVariants.{AccessLost, InvalidCall, WaitTimeout}
+use Rattle.dd_calls.specs.declared.answers.Answer.{Answer}
+use Rattle.dd_calls.specs.declared.answers.Answer.TheVariants as answers
+use Rattle.dd_calls.specs.declared.answers.DupRefusal.{DupRefusal}
+use Rattle.dd_calls.specs.declared.answers.DupRefusal.TheVariants.{AccessLost, InvalidCall, WaitTimeout}
 use Rattle.dd_log.specs.declared.desk.Desk.{Desk}
 use Rattle.dd_log.specs.declared.events.Entry.{Entry}
 use Rattle.dd_log.specs.History.{History, desk, desk_mode, first_entries, any_cuts_off, any_presents, any_points, last_present, last_pointed, last_shape}
 use Rattle.dd_log.specs.Picture.{presents, picture, view}
 use Rattle.dd_log.specs.Veil.{veil, veiled_entry}
 use Rattle.dd_log.proofs.Veiling.{shows-veiled, presents-veiled, first-veiled, any_cuts-veiled, any_presents-veiled, any_points-veiled, last_present-veiled, last_pointed-veiled, last_shape-veiled}
-use Rattle.dd_dup.specs.declared.calls.DupCall.TheVariants as calls
+use Rattle.dd_calls.specs.declared.dup_call.DupCall.TheVariants as calls
 use Rattle.dd_dup.specs.declared.frame.Frame.{Frame}
 use Rattle.dd_dup.specs.declared.frame.PictureNews.{PictureNews}
 use Rattle.dd_dup.specs.declared.frame.PointerNews.{PointerNews}
@@ -32,7 +32,7 @@ use Rattle.dd_meta.specs.Buffer.{bytes_of_moves, bytes_of_rects}
 use Rattle.dd_dup.specs.News.{held_moves, held_dirt, held_shape, shape_bytes, news, picture_news, dirt_of, picture_since, pointer_since, news_since, frame_from, frame}
 use Rattle.dd_dup.specs.Reply.{Memory, is_lost, lost_memory, is_new, memory_after, without_frame, acquire_reply, acquire_memory, acquire_answer, release_answer, in_buffer, buffer_answer, shape_answer, held_shape_info, filled_buffer, unless_refused}
 use Rattle.dd_dup.specs.Duplicator.{Duplicator, holding, lent}
-use Rattle.dd_dup.specs.Veil.{HiddenContent, HoldsVeil, LendsVeil}
+use Rattle.dd_dup.specs.Veil.{HiddenReplies, HoldsVeil, LendsVeil}
 use Rattle.dd_dup.proofs.Frames.{whole-picture}
 
 -- pictures that hide the same points hide one or none
@@ -181,7 +181,7 @@ abbrev put_by : Memory → (Result ℕ DupRefusal → List ℕ → Answer) → L
 put_by m answer bytes size lost =
     (in_buffer answer (unless_refused (held_by m lost) bytes (filled_buffer size)), kept_by m lost)
 
-pub reply-veiled : HiddenContent
+pub reply-veiled : HiddenReplies
 reply-veiled calls.Acquire m h =
     ap (λ (r : Result Frame DupRefusal). (acquire_answer r, acquire_memory m (veil h))) (acquire_same m h)
     ∙ ap (λ (x : Memory). (acquire_answer (acquire_reply m h), x)) (acquired_same m h)

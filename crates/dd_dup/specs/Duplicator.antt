@@ -6,17 +6,17 @@ use Rattle.dd_bits.specs.CanonicalList.{canonical_list}
 use Rattle.dd_modes.specs.declared.modes.Mode.{Mode}
 use Rattle.dd_acc.specs.Effects.{all_effects, any_reaches, drawn_afresh}
 use Rattle.dd_acc.specs.Rebuild.{any_has, rebuild}
-use Rattle.dd_log.specs.declared.answers.DupRefusal.{DupRefusal}
-use Rattle.dd_log.specs.declared.answers.DupRefusal.TheVariants.{AccessLost}
+use Rattle.dd_calls.specs.declared.answers.DupRefusal.{DupRefusal}
+use Rattle.dd_calls.specs.declared.answers.DupRefusal.TheVariants.{AccessLost}
 use Rattle.dd_log.specs.declared.events.Entry.{Entry}
-use Rattle.dd_log.specs.History.{History, desk_mode, first_entries, legal, any_begins}
+use Rattle.dd_log.specs.History.{History, desk, desk_mode, first_entries, legal, any_begins}
 use Rattle.dd_log.specs.Picture.{presents, picture, view}
 use Rattle.dd_dup.specs.declared.frame.Frame.{Frame}
 use Rattle.dd_dup.specs.News.{news, frame, held_moves, held_dirt}
 use Rattle.dd_dup.specs.Reply.{Memory, is_lost, with_frame, without_frame, lost_memory}
 
 -- its memory, its own surface, the points that are hidden there, the mode that it was opened in, and how many entries
--- it has drawn
+-- it has counted
 pub record Duplicator : Type 0 where
   pub memory : Memory
   pub surface : Grid ℕ
@@ -25,7 +25,7 @@ pub record Duplicator : Type 0 where
   pub folded : ℕ
 
 -- after it holds the frame of what is new: its mark is the list's end, its surface and the hidden points are the
--- desk's, and the entries from the mark on were drawn
+-- desk's, and the entries from the mark on are counted
 abbrev pub holding : Duplicator → History → Duplicator
 holding d h = record d {
   memory = with_frame d.memory (length h.entries) (frame h d.memory.mark d.memory.pointer_mark);
@@ -53,6 +53,11 @@ IsRefusedBy cause old new = new ≡ old
 abbrev pub IsRefused : {A : Type 0} → Result A DupRefusal → Duplicator → Duplicator → Type 0
 IsRefused (Ok x) old new = Unit {0}
 IsRefused (Err cause) old new = IsRefusedBy cause old new
+
+-- It has counted each entry once, those from where the desk's picture began at its opening up to its mark, also where
+-- drawing them was spared.
+abbrev pub IsFolded : Duplicator → History → Type 0
+IsFolded d h = d.folded + (desk (first_entries d.memory.opened h)).picture_start ≡ d.memory.mark
 
 -- the surface that is lent: none where no frame is held
 abbrev pub lent : Duplicator → Option (Grid ℕ)

@@ -5,5 +5,6 @@ pub mod Stands
 pub mod Dup
 pub mod Walk
 pub mod Veil
+pub mod Acquiring
 pub mod Seen
 pub mod Filling

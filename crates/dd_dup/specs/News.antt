@@ -9,7 +9,7 @@ use Rattle.dd_bits.specs.CanonicalList.{canonical_list}
 use Rattle.dd_pointer.specs.Shape.{PointerShape}
 use Rattle.dd_acc.specs.Effects.{dirt, is_coalesced, moves}
 use Rattle.dd_log.specs.declared.events.Entry.{Entry}
-use Rattle.dd_log.specs.declared.answers.FrameInfo.{FrameInfo}
+use Rattle.dd_calls.specs.declared.answers.FrameInfo.{FrameInfo}
 use Rattle.dd_log.specs.History.{History, desk, desk_mode, last_present, last_pointed, last_shape}
 use Rattle.dd_log.specs.Picture.{presents, picture}
 use Rattle.dd_dup.specs.declared.frame.Frame.{Frame}

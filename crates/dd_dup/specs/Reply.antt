@@ -1,24 +1,24 @@
 -- What one duplicator answers, told by its memory and the list.
-use Rattle.std.specs.Prelude.{◌≡◌, ℕ, ◌+◌, ◌^◌, ◌≤◌, ◌<◌, Bool, true, false, ◌||◌, if◌then◌else◌, List, length, drop, replicate, Option, Some, None, is_some, option_map, Result, Ok, Err, is_ok, IsOk}
+use Rattle.std.specs.Prelude.{◌≡◌, ℕ, ◌+◌, ◌^◌, ◌≤◌, ◌<◌, nat_lt, Bool, true, false, ◌||◌, if◌then◌else◌, List, length, drop, replicate, Option, Some, None, is_some, option_map, Result, Ok, Err, is_ok, IsOk}
 use Rattle.dd_geom.specs.Grid.{rows}
 use Rattle.dd_pointer.specs.declared.shape.ShapeInfo.{ShapeInfo}
 use Rattle.dd_pointer.specs.Shape.{info_of}
 use Rattle.dd_coal.specs.declared.coalescing.TheConstants.{MAX_RECTS}
 use Rattle.dd_acc.specs.declared.interval.TheConstants.{MAX_MOVES}
 use Rattle.dd_meta.specs.Buffer.{bytes_of_moves, bytes_of_rects, put}
-use Rattle.dd_log.specs.declared.answers.Answer.{Answer}
-use Rattle.dd_log.specs.declared.answers.Answer.TheVariants as answers
-use Rattle.dd_log.specs.declared.answers.FrameInfo.{FrameInfo}
-use Rattle.dd_log.specs.declared.answers.DupRefusal.{DupRefusal}
-use Rattle.dd_log.specs.declared.answers.DupRefusal.TheVariants.{AccessLost, InvalidCall, WaitTimeout, MoreData, OutOfMemory}
+use Rattle.dd_calls.specs.declared.answers.Answer.{Answer}
+use Rattle.dd_calls.specs.declared.answers.Answer.TheVariants as answers
+use Rattle.dd_calls.specs.declared.answers.FrameInfo.{FrameInfo}
+use Rattle.dd_calls.specs.declared.answers.DupRefusal.{DupRefusal}
+use Rattle.dd_calls.specs.declared.answers.DupRefusal.TheVariants.{AccessLost, InvalidCall, WaitTimeout, MoreData, OutOfMemory}
 use Rattle.dd_modes.specs.declared.modes.Mode.{Mode}
 use Rattle.dd_log.specs.History.{History, desk, desk_mode, first_entries, any_cuts_off, any_presents, any_points}
 use Rattle.dd_log.specs.Picture.{view}
+use Rattle.dd_log.specs.Slots.{slot_at}
 use Rattle.dd_dup.specs.declared.calls.TheConstants.{FILL}
-use Rattle.dd_dup.specs.declared.calls.DupCall.{DupCall}
-use Rattle.dd_dup.specs.declared.calls.DupCall.TheVariants as calls
+use Rattle.dd_calls.specs.declared.dup_call.DupCall.{DupCall}
+use Rattle.dd_calls.specs.declared.dup_call.DupCall.TheVariants as calls
 use Rattle.dd_dup.specs.declared.frame.Frame.{Frame}
-use Rattle.dd_dup.specs.declared.frame.News.{News}
 use Rattle.dd_dup.specs.News.{news, frame, held_moves, held_dirt, held_shape, shape_bytes}
 
 -- What a duplicator remembers: its opening place, its picture mark and its pointer mark, the frame that it holds, and
@@ -167,13 +167,13 @@ reply (calls.Shape buffer) m h = (
 reply calls.Surface m h = (answers.Surface (surface_reply m h), m)
 reply calls.Desc m h = (answers.Desc (desc_reply m h), m)
 
--- whether a call takes memory: for a frame that is granted, for a buffer, and for rows
+-- whether a call takes memory: for a frame that is granted, for a buffer of at least one byte, and for rows
 abbrev pub call_takes_memory : DupCall → Memory → History → Bool
 call_takes_memory calls.Acquire m h = is_ok (acquire_reply m h)
 call_takes_memory calls.Release m h = false
-call_takes_memory (calls.Moves buffer) m h = true
-call_takes_memory (calls.Dirty buffer) m h = true
-call_takes_memory (calls.Shape buffer) m h = true
+call_takes_memory (calls.Moves buffer) m h = nat_lt 0 buffer
+call_takes_memory (calls.Dirty buffer) m h = nat_lt 0 buffer
+call_takes_memory (calls.Shape buffer) m h = nat_lt 0 buffer
 call_takes_memory calls.Surface m h = is_some m.held
 call_takes_memory calls.Desc m h = false
 
@@ -182,11 +182,6 @@ call_takes_memory calls.Desc m h = false
 abbrev pub Answers : Result FrameInfo DupRefusal → Memory → Memory → History → Type 0
 Answers (Err OutOfMemory) old new h = IsOk (acquire_reply old h)
 Answers answer old new h = (answer ≡ told_info (acquire_reply old h)) × (new ≡ acquire_memory old h)
-
--- What is new is that of the reply. Or memory is wanting, for news that are granted.
-abbrev pub IsNewsOr : Result News DupRefusal → Result News DupRefusal → Type 0
-IsNewsOr (Err OutOfMemory) reply = IsOk reply
-IsNewsOr answer reply = reply ≡ answer
 
 -- the buffer wasn't too short
 abbrev pub IsNotShort : Result ℕ DupRefusal → Type 0
@@ -198,3 +193,8 @@ abbrev pub IsBounded : Answer → Type 0
 IsBounded (answers.Frame info moves dirt) =
     (length moves ≤ MAX_MOVES) × (length dirt ≤ MAX_RECTS) × (info.accumulated < 2 ^ 32)
 IsBounded _ = Unit {0}
+
+-- the slot of a client's duplicator, where it has one: that of its opening
+abbrev pub slot_of : Option Memory → History → Option ℕ
+slot_of None h = None
+slot_of (Some m) h = slot_at h m.opened

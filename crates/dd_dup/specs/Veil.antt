@@ -4,15 +4,15 @@ use Rattle.dd_geom.specs.Grid.{Grid}
 use Rattle.dd_log.specs.History.{History, first_entries}
 use Rattle.dd_log.specs.Picture.{view}
 use Rattle.dd_log.specs.Veil.{veil}
-use Rattle.dd_dup.specs.declared.calls.DupCall.{DupCall}
+use Rattle.dd_calls.specs.declared.dup_call.DupCall.{DupCall}
 use Rattle.dd_dup.specs.News.{frame}
 use Rattle.dd_dup.specs.Reply.{Memory, reply}
 use Rattle.dd_dup.specs.Duplicator.{Duplicator}
 use Rattle.dd_dup.specs.Stands.{Stands}
 
 -- Each call is answered on a list as on its veil, in which covers hide black, and leaves the same memory.
-abbrev pub HiddenContent : Type 0
-HiddenContent = (call : DupCall) (m : Memory) (h : History) → reply call m (veil h) ≡ reply call m h
+abbrev pub HiddenReplies : Type 0
+HiddenReplies = (call : DupCall) (m : Memory) (h : History) → reply call m (veil h) ≡ reply call m h
 
 -- the frame that is held is that of the veil, and the surface is what is seen of the veil
 abbrev pub HoldsVeil : Duplicator → Duplicator → History → Type 0

@@ -1,6 +1,6 @@
 //! What a duplicator answers to a call, with copies of what a frame lends.
 
-ghost use Rattle.std.specs.Prelude.{◌≡◌, ◌≤◌, Ok, IfOk, OnOk, OnErr, IsOk, IsSome, length, false};
+ghost use Rattle.std.specs.Prelude.{◌≡◌, ◌<◌, ◌≤◌, Ok, IfOk, OnOk, OnErr, IsOk, IsSome, length, false};
 ghost use Rattle.dd_geom.specs.Grid.{rows};
 ghost use Rattle.dd_pointer.specs.Shape.{info_of};
 ghost use Rattle.dd_coal.specs.declared.coalescing.TheConstants.{MAX_RECTS};
@@ -12,36 +12,17 @@ ghost use Rattle.dd_dup.specs.Stands.{Stands};
 
 use crate::duplicator::Dup;
 use crate::frame::News;
+use dd_calls::{Answer, DupRefusal, Rows};
 use dd_geom::{Moves, Rects};
 use dd_grid::Surface;
 use dd_io::Bytes;
-use dd_log::{Answer, DupRefusal, Log, Rows};
+use dd_log::Log;
 use dd_ops::Colours;
 use dd_pointer::ShapeInfo;
 use std::alloc::{AllocError, Global};
 
 /// What each byte of a buffer is before a call.
 pub const FILL: u8 = 238;
-
-/// What a duplicator is asked.
-#[derive(Clone, Copy, Debug, PartialEq, Eq)]
-pub enum DupCall {
-    /// Acquires a frame (AcquireNextFrame).
-    Acquire,
-    /// Releases the frame (ReleaseFrame).
-    Release,
-    /// Asks for the held frame's moves in a buffer of this many bytes (GetFrameMoveRects).
-    Moves { buffer: u32 },
-    /// Asks for the held frame's dirty rectangles in a buffer of this many bytes
-    /// (GetFrameDirtyRects).
-    Dirty { buffer: u32 },
-    /// Asks for the held frame's new shape in a buffer of this many bytes (GetFramePointerShape).
-    Shape { buffer: u32 },
-    /// Asks for the rows of the acquired surface.
-    Surface,
-    /// Asks for the mode at the opening (GetDesc).
-    Desc,
-}
 
 /// The moves and the dirty rectangles of what is new, on memory of their own.
 fn lists_of(alloc: Global, news: &News) -> Result<(Moves, Rects), AllocError>
@@ -118,12 +99,15 @@ pub(crate) fn release(dup: &mut Dup, log: &Log) -> Answer
     }
 }
 
-/// A buffer of this many bytes.
+/// A buffer of this many bytes. One of none takes no memory.
 fn buffer_of(alloc: Global, size: u32) -> Result<Vec<u8>, AllocError>
-    ensures { IfOk result (λ b. b.items ≡ filled_buffer size) }
+    ensures value { IfOk result (λ b. b.items ≡ filled_buffer size) }
+    ensures wants { OnErr result (0 < size) }
 {
     let mut buffer = Vec::new(alloc);
-    buffer.resize(size as usize, FILL)?;
+    if size > 0 {
+        buffer.resize(size as usize, FILL)?;
+    }
     Ok(buffer)
 }
 
@@ -153,6 +137,7 @@ pub(crate) fn moves(
         ≡ in_buffer buffer_answer (moves_reply dup.old.memory log.now (filled_buffer size))) }
     ensures memory { OnOk result (dup.new.memory ≡ held_memory dup.old.memory log.now) }
     ensures err { OnErr result (dup.new ≡ dup.old) }
+    ensures wants { OnErr result (0 < size) }
     ensures stands { Stands dup.new log.now }
 {
     let mut buffer = buffer_of(alloc, size)?;
@@ -172,6 +157,7 @@ pub(crate) fn dirty(
         ≡ in_buffer buffer_answer (dirty_reply dup.old.memory log.now (filled_buffer size))) }
     ensures memory { OnOk result (dup.new.memory ≡ held_memory dup.old.memory log.now) }
     ensures err { OnErr result (dup.new ≡ dup.old) }
+    ensures wants { OnErr result (0 < size) }
     ensures stands { Stands dup.new log.now }
 {
     let mut buffer = buffer_of(alloc, size)?;
@@ -219,6 +205,7 @@ pub(crate) fn shape(
         (shape_reply dup.old.memory log.now (filled_buffer size))) }
     ensures memory { OnOk result (dup.new.memory ≡ held_memory dup.old.memory log.now) }
     ensures err { OnErr result (dup.new ≡ dup.old) }
+    ensures wants { OnErr result (0 < size) }
     ensures stands { Stands dup.new log.now }
 {
     let mut buffer = buffer_of(alloc, size)?;

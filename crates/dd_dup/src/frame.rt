@@ -12,8 +12,9 @@ ghost use Rattle.dd_dup.specs.News.{frame_from, shape_bytes};
 
 use dd_acc::{FrameMoves, FrameRects};
 use dd_bits::Area;
+use dd_calls::FrameInfo;
 use dd_geom::{MOVE_BYTES, Move, RECT_BYTES, Rect};
-use dd_log::{FrameInfo, Pointer};
+use dd_log::Pointer;
 use dd_pointer::Shape;
 use dd_region::Bands;
 

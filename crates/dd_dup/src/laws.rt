@@ -2,7 +2,7 @@
 
 ghost use Rattle.dd_dup.specs.Stands.{StandsLater};
 ghost use Rattle.dd_dup.specs.Duplicator.{FramesRebuild, FramesAreReached};
-ghost use Rattle.dd_dup.specs.Veil.{HiddenContent};
+ghost use Rattle.dd_dup.specs.Veil.{HiddenReplies};
 
 /// A duplicator that stands on a list stands on each list that begins with it.
 pub fn stands_later()
@@ -24,5 +24,5 @@ pub fn frames_are_reached()
 /// Nothing of what covers hide reaches an answer: each call is answered as on the list in which they
 /// hide black.
 pub fn hidden_content()
-    ensures { HiddenContent }
+    ensures { HiddenReplies }
 {}

@@ -10,11 +10,9 @@ mod frame;
 mod laws;
 mod news;
 
-pub use calls::{DupCall, FILL};
-pub use dd_log::{DupRefusal, FrameInfo, Pointer};
+pub use calls::FILL;
+pub use dd_calls::{DupCall, DupRefusal, FrameInfo};
+pub use dd_log::Pointer;
 pub use duplicator::Dup;
 pub use frame::{Frame, Hidden, News, PictureNews, PointerNews};
 pub use laws::{frames_are_reached, frames_rebuild, hidden_content, stands_later};
-
-#[cfg(test)]
-mod tests;

@@ -1,7 +1,7 @@
 -- How many steps there are.
 use Rattle.std.proofs.Common.{◌≡◌, ℕ, zero, suc, ◌+◌, ◌%◌, [], List, Bool, true, false, length, refl, arith, length-append}
 use Rattle.std.specs.Prelude.{◌==◌, if◌then◌else◌}
-use Rattle.dd_station.specs.declared.steps.Step.{Step}
+use Rattle.dd_calls.specs.declared.steps.Step.{Step}
 use Rattle.dd_gen.specs.Making.{Making, give}
 use Rattle.dd_gen.specs.Generator.{pointer, look, looks, operations, round, rounds, made_steps}
 

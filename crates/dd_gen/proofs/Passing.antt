@@ -9,10 +9,10 @@ use Rattle.dd_geom.specs.Rect.{spans_inside}
 use Rattle.dd_ops.specs.declared.operations.Op.{Op}
 use Rattle.dd_ops.specs.declared.operations.Op.TheVariants.{Fill}
 use Rattle.dd_log.specs.declared.events.Draw.TheVariants.{Present, Pointer}
-use Rattle.dd_station.specs.declared.steps.ClientCall.TheVariants.{Duplicate, Close}
-use Rattle.dd_station.specs.declared.steps.Step.{Step}
-use Rattle.dd_station.specs.declared.steps.Step.TheVariants.{Draw, Call}
-use Rattle.dd_station.specs.Run.{IsOfClient}
+use Rattle.dd_calls.specs.declared.steps.ClientCall.TheVariants.{Duplicate, Close}
+use Rattle.dd_calls.specs.declared.steps.Step.{Step}
+use Rattle.dd_calls.specs.declared.steps.Step.TheVariants.{Draw, Call}
+use Rattle.dd_calls.specs.Calls.{IsOfClient}
 use Rattle.dd_gen.specs.Making.{Making, draw}
 use Rattle.dd_gen.specs.Generator.{rect_at, scroll_to, fill, fills, scroll, operations, point, pointer, look, looks_of, looks, round, rounds, each_calls, made_steps}
 use Rattle.dd_gen.specs.EverySeed.{is_made_op, is_made_drawing, is_made_call, is_made_step}

@@ -8,12 +8,12 @@ use Rattle.dd_ops.specs.declared.operations.Op.TheVariants.{Fill, Blit, Cover, S
 use Rattle.dd_ops.specs.Operations.{fits}
 use Rattle.dd_log.specs.declared.events.Draw as draws
 use Rattle.dd_log.specs.declared.events.Draw.TheVariants as drawings
-use Rattle.dd_station.specs.declared.steps.ClientCall.{ClientCall}
-use Rattle.dd_station.specs.declared.steps.ClientCall.TheVariants.{Duplicate, Close, Acquire, Release, Moves, Dirty, Shape, Surface, Desc}
-use Rattle.dd_station.specs.declared.steps.Step.{Step}
-use Rattle.dd_station.specs.declared.steps.Step.TheVariants.{Draw, Call}
-use Rattle.dd_station.specs.declared.steps.Script.{Script}
-use Rattle.dd_station.specs.Run.{IsOfClient}
+use Rattle.dd_calls.specs.declared.steps.ClientCall.{ClientCall}
+use Rattle.dd_calls.specs.declared.steps.ClientCall.TheVariants.{Duplicate, Close, Acquire, Release, Moves, Dirty, Shape, Surface, Desc}
+use Rattle.dd_calls.specs.declared.steps.Step.{Step}
+use Rattle.dd_calls.specs.declared.steps.Step.TheVariants.{Draw, Call}
+use Rattle.dd_calls.specs.declared.steps.Script.{Script}
+use Rattle.dd_calls.specs.Calls.{IsOfClient}
 use Rattle.dd_gen.specs.Generator.{rect_at, made}
 
 -- a fill or a scroll that may be drawn on the screen

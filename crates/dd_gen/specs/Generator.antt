@@ -7,11 +7,11 @@ use Rattle.dd_modes.specs.declared.modes.Rotation.TheVariants.{Identity}
 use Rattle.dd_ops.specs.declared.operations.Op.{Op}
 use Rattle.dd_ops.specs.declared.operations.Op.TheVariants.{Fill, Scroll}
 use Rattle.dd_log.specs.declared.events.Draw.TheVariants.{Present, Pointer}
-use Rattle.dd_station.specs.declared.steps.ClientCall.{ClientCall}
-use Rattle.dd_station.specs.declared.steps.ClientCall.TheVariants.{Duplicate, Close, Acquire, Release}
-use Rattle.dd_station.specs.declared.steps.Step.{Step}
-use Rattle.dd_station.specs.declared.steps.Step.TheVariants.{Draw, Call}
-use Rattle.dd_station.specs.declared.steps.Script.{Script}
+use Rattle.dd_calls.specs.declared.steps.ClientCall.{ClientCall}
+use Rattle.dd_calls.specs.declared.steps.ClientCall.TheVariants.{Duplicate, Close, Acquire, Release}
+use Rattle.dd_calls.specs.declared.steps.Step.{Step}
+use Rattle.dd_calls.specs.declared.steps.Step.TheVariants.{Draw, Call}
+use Rattle.dd_calls.specs.declared.steps.Script.{Script}
 use Rattle.dd_gen.specs.Making.{Making, give, ◌>>=◌, draw}
 
 -- the rectangle of a width and a height whose first point is (x, y)

@@ -6,8 +6,6 @@ mod generator;
 mod laws;
 mod rounds;
 mod script;
-#[cfg(test)]
-mod tests;
 
 pub use laws::scripts_are_made;
 pub use script::make;

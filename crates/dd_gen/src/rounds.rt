@@ -5,9 +5,9 @@ ghost use Rattle.dd_gen.specs.Generator.{point, pointer, look, looks_of, looks, 
 
 use crate::drawing::{HEIGHT, WIDTH, operations};
 use crate::generator::Generator;
+use dd_calls::{ClientCall, Step};
 use dd_geom::Point;
 use dd_log::Draw;
-use dd_station::{ClientCall, Step};
 use std::alloc::{AllocError, Global};
 
 /// A point of the screen.

@@ -6,9 +6,9 @@ ghost use Rattle.dd_gen.specs.Generator.{each_calls, made_steps, screen, made};
 use crate::drawing::{HEIGHT, WIDTH};
 use crate::generator::Generator;
 use crate::rounds::add_rounds;
+use dd_calls::{ClientCall, Script, Step, Steps};
 use dd_log::{Apps, Spec};
 use dd_modes::{Mode, Modes, Rotation};
-use dd_station::{ClientCall, Script, Step, Steps};
 use std::alloc::{AllocError, Global};
 
 /// How many rounds there are.

@@ -6,8 +6,6 @@ mod lists;
 mod painting;
 mod rect;
 mod scrolling;
-#[cfg(test)]
-mod tests;
 
 pub use bytes::{
     move_bytes, move_is_read, move_is_written, move_of, rect_bytes, rect_is_read, rect_is_written,

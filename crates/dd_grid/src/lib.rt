@@ -6,8 +6,6 @@ mod drawing;
 mod laws;
 mod picture;
 mod surface;
-#[cfg(test)]
-mod tests;
 
 pub use cell::COLOURS;
 pub use laws::{seen_commutes, seen_is_surface};

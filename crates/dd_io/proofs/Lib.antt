@@ -1,2 +1,3 @@
 -- Lemmas on transfers of many pieces.
 pub mod Pieces
+pub mod Examples

@@ -1,15 +1,16 @@
 //! A reader or a writer that can't be called but through a call that counts its faults.
-ghost use Rattle.std.specs.Prelude.{◌≡◌, ℕ, ◌<◌, ◌≤◌, IfOk, OnErr, OnOk, length, take};
+ghost use Rattle.std.specs.Prelude.{◌≡◌, ◌<◌, ◌≤◌, ◌+◌, IfOk, IfErr, OnErr, OnOk, length};
 ghost use Rattle.std.specs.Io.{ReadsAtMost, WritesAtMost};
-ghost use Rattle.std.specs.Io.KnownBytes.{Appends, Consumes, IsAtEnd, Keeps, ReadConsumes, WriteAppends};
-ghost use Rattle.dd_io.specs.Causes.{Rose, risen};
+ghost use Rattle.std.specs.Io.KnownBytes.{Keeps, ReadConsumes, WriteAppends};
+ghost use Rattle.std.specs.IoError.{error_kind};
+ghost use Rattle.dd_io.specs.Causes.{Rose, risen, raised};
 
 use crate::Failed;
 use std::io;
 use std::io::{ErrorKind, Read, Write};
 
-// How often a call is tried that a signal interrupts before it moves a byte.
-const TRIES: usize = 64;
+/// How often a call is tried that a signal interrupts before it moves a byte.
+pub const MAX_TRIES: usize = 64;
 
 // A device, and how many of its calls failed, an interrupted one too.
 #[derive(Debug, Drop)]
@@ -55,8 +56,11 @@ impl<R: Read> Counted<R> {
         ensures bytes { ReadConsumes (R.remaining self.old.device) (R.remaining self.new.device) result buf.new }
         ensures failed { OnErr result (Rose self.old.faults self.new.faults) }
         ensures later { self.old.faults ≤ self.new.faults }
+        ensures tries { self.new.faults ≤ self.old.faults + MAX_TRIES }
+        ensures gives_up { IfErr result (λ e. error_kind e ≡ ErrorKind.Interrupted →
+            self.new.faults ≡ raised MAX_TRIES self.old.faults) }
     {
-        for _ in 1..TRIES {
+        for tries in 1..MAX_TRIES {
             match self.try_read(buf) {
                 Err(e) if e.kind() == ErrorKind::Interrupted => {}
                 other => return other,
@@ -70,6 +74,7 @@ impl<R: Read> Counted<R> {
         ensures bytes { ReadConsumes (R.remaining self.old.device) (R.remaining self.new.device) result buf.new }
         ensures failed { OnErr result (Rose self.old.faults self.new.faults) }
         ensures later { self.old.faults ≤ self.new.faults }
+        ensures tries { self.new.faults ≤ self.old.faults + MAX_TRIES }
     {
         self.read_retrying(buf).map_err(|_| Failed)
     }
@@ -101,8 +106,11 @@ impl<W: Write> Counted<W> {
         ensures bytes { WriteAppends (W.contents self.old.device) (W.contents self.new.device) result b.now }
         ensures failed { OnErr result (Rose self.old.faults self.new.faults) }
         ensures later { self.old.faults ≤ self.new.faults }
+        ensures tries { self.new.faults ≤ self.old.faults + MAX_TRIES }
+        ensures gives_up { IfErr result (λ e. error_kind e ≡ ErrorKind.Interrupted →
+            self.new.faults ≡ raised MAX_TRIES self.old.faults) }
     {
-        for _ in 1..TRIES {
+        for tries in 1..MAX_TRIES {
             match self.try_write(b) {
                 Err(e) if e.kind() == ErrorKind::Interrupted => {}
                 other => return other,
@@ -117,6 +125,7 @@ impl<W: Write> Counted<W> {
         ensures bytes { WriteAppends (W.contents self.old.device) (W.contents self.new.device) result b.now }
         ensures failed { OnErr result (Rose self.old.faults self.new.faults) }
         ensures later { self.old.faults ≤ self.new.faults }
+        ensures tries { self.new.faults ≤ self.old.faults + MAX_TRIES }
     {
         self.write_retrying(b).map_err(|_| Failed)
     }

@@ -11,6 +11,7 @@ mod source;
 mod std_io;
 mod transfer;
 
+pub use counted::MAX_TRIES;
 pub use fault::{Failed, ReadUpFault};
 pub use lists::{Bytes, Numbers};
 pub use mem::{MemSink, MemSource};
@@ -21,6 +22,3 @@ pub use transfer::{CHUNK, read_piece, read_up_to, write_all};
 
 /// There was no memory.
 pub use std::alloc::AllocError as OutOfMemory;
-
-#[cfg(test)]
-mod tests;

@@ -1,5 +1,5 @@
 //! Lists of bytes and of numbers, which a contract sees as lists.
-ghost use Rattle.std.specs.Prelude.{◌≡◌, ◌↔◌, ◌==◌, [], length, IsTrue};
+ghost use Rattle.std.specs.Prelude.{◌≡◌, ◌↔◌, [], length, IsTrue};
 
 use std::marker::Model;
 

@@ -1,5 +1,5 @@
 //! Whole transfers: all bytes up to the end of input, and all bytes of a piece.
-ghost use Rattle.std.specs.Prelude.{◌≡◌, ◌+◌, ◌<◌, ◌≤◌, length, IfOk, OnOk, OnErr, IsErrOf};
+ghost use Rattle.std.specs.Prelude.{◌+◌, ◌<◌, ◌≤◌, length, IfOk, OnOk, OnErr, IsErrOf};
 ghost use Rattle.std.specs.Io.KnownBytes.{Appends, Consumes, IsAtEnd};
 ghost use Rattle.dd_io.specs.Causes.{Rose};
 ghost use Rattle.dd_io.specs.Transfer.{AppendsPrefix, GivesMoreThan, GivesAtMost, ReadsAll, GivesPiece};

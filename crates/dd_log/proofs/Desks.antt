@@ -11,7 +11,7 @@ use Rattle.dd_log.specs.declared.events.Entry.{Entry}
 use Rattle.dd_log.specs.declared.events.Event.{Event}
 use Rattle.dd_log.specs.declared.events.TheConstants.{MAX_ACTORS}
 use Rattle.dd_log.specs.Events.{begins_picture, cuts_off, is_present, is_pointing, has_shape, is_end, any_cuts_off, any_presents, any_points, any_ends, shape_at, last_present, last_pointed, last_shape}
-use Rattle.dd_log.specs.Desk.{first_desk, desk_after, desk_of, mode_after, secure_after, connected_after, slots_after, place_after}
+use Rattle.dd_log.specs.Desk.{first_desk, desk_after, desk_of, mode_after, slots_after, place_after}
 use Rattle.dd_log.specs.History.{last_step}
 use Rattle.dd_log.proofs.Snoc.{by_snoc, any_push, Marks, Tells, tells}
 use Rattle.dd_log.proofs.Lasts.{number_tells, shape_tells, no_shape}
@@ -31,16 +31,6 @@ pub mode-push : (ms : List Mode) (es : List Entry) (e : Entry)
     → (desk_of ms (es ++ e ∷ [])).mode ≡ mode_after ms (desk_of ms es).mode e.event
 unfolding desk_after
 mode-push ms es e = ap (λ (d : Desk). d.mode) (desk-push ms es e)
-
-pub secure-push : (ms : List Mode) (es : List Entry) (e : Entry)
-    → (desk_of ms (es ++ e ∷ [])).secure ≡ secure_after (desk_of ms es).secure e.event
-unfolding desk_after
-secure-push ms es e = ap (λ (d : Desk). d.secure) (desk-push ms es e)
-
-pub connected-push : (ms : List Mode) (es : List Entry) (e : Entry)
-    → (desk_of ms (es ++ e ∷ [])).connected ≡ connected_after (desk_of ms es).connected e.event
-unfolding desk_after
-connected-push ms es e = ap (λ (d : Desk). d.connected) (desk-push ms es e)
 
 pub ended-push : (ms : List Mode) (es : List Entry) (e : Entry)
     → (desk_of ms (es ++ e ∷ [])).ended ≡ ((desk_of ms es).ended || is_end e.event)

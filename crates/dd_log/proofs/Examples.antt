@@ -6,7 +6,7 @@ use Rattle.dd_modes.specs.declared.modes.Rotation.TheVariants.{Identity}
 use Rattle.dd_ops.specs.declared.operations.Op.TheVariants.{Fill, Cover}
 use Rattle.dd_pointer.specs.declared.kind.Kind.TheVariants.{Monochrome}
 use Rattle.dd_pointer.specs.Shape.{PointerShape}
-use Rattle.dd_log.specs.declared.answers.LogRefusal.TheVariants.{Ended, Full, BadMode, BadRect}
+use Rattle.dd_log.specs.declared.refusal.LogRefusal.TheVariants.{Ended, Full, BadMode, BadRect}
 use Rattle.dd_log.specs.declared.events.Spec.{Spec}
 use Rattle.dd_log.specs.declared.events.Entry.{Entry}
 use Rattle.dd_log.specs.declared.events.Event.{Event}

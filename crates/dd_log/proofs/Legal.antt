@@ -13,8 +13,8 @@ use Rattle.std.proofs.Math.Logic.{⊎_elim}
 use Rattle.dd_modes.specs.declared.modes.Mode.{Mode}
 use Rattle.dd_ops.specs.declared.operations.Op.{Op}
 use Rattle.dd_ops.specs.Operations.{fits}
-use Rattle.dd_log.specs.declared.answers.LogRefusal.{LogRefusal}
-use Rattle.dd_log.specs.declared.answers.LogRefusal.TheVariants.{Ended, Full, BadRect}
+use Rattle.dd_log.specs.declared.refusal.LogRefusal.{LogRefusal}
+use Rattle.dd_log.specs.declared.refusal.LogRefusal.TheVariants.{Ended, Full, BadRect}
 use Rattle.dd_log.specs.declared.events.Entry.{Entry}
 use Rattle.dd_log.specs.declared.events.Event.{Event}
 use Rattle.dd_log.specs.declared.events.Event.TheVariants.{Opened, Closed, End}

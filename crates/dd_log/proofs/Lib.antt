@@ -5,4 +5,6 @@ pub mod Legal
 pub mod Pictures
 pub mod Shown
 pub mod Snoc
+pub mod VeiledPictures
+pub mod VeiledLists
 pub mod Veiling

@@ -4,7 +4,7 @@ use Rattle.std.specs.List.{list_any}
 use Rattle.std.specs.Option.{option_or}
 use Rattle.dd_ops.specs.declared.operations.Op.{Op}
 use Rattle.dd_pointer.specs.Shape.{PointerShape}
-use Rattle.dd_log.specs.declared.answers.Pointer.{Pointer}
+use Rattle.dd_log.specs.declared.pointer.Pointer.{Pointer}
 use Rattle.dd_log.specs.declared.events.Entry.{Entry}
 use Rattle.dd_log.specs.declared.events.Event.{Event}
 use Rattle.dd_log.specs.declared.events.Event.TheVariants.{Opened, Closed, End}
@@ -13,93 +13,72 @@ use Rattle.dd_log.specs.declared.events.Draw.{Draw}
 use Rattle.dd_log.specs.declared.events.Draw.TheVariants.{Present, Switch, Disconnect, Reconnect}
 use Rattle.dd_log.specs.declared.events.Draw.TheVariants as drawings
 
--- the operations of a present; none for any other drawing
+-- What a drawing does: the operations of a present, the pointer or the shape that it sets, whether it begins a black
+-- picture, and whether duplicators that were opened before it are lost.
+pub record Parts : Type 0 where
+  pub operations : Option (List Op)
+  pub pointer : Option Pointer
+  pub shape : Option PointerShape
+  pub begins : Bool
+  pub loses : Bool
+
+-- of a drawing that sets nothing
+abbrev pub sets_nothing : Bool → Bool → Parts
+sets_nothing begins loses =
+    record { operations = None; pointer = None; shape = None; begins = begins; loses = loses }
+
+-- a change of the mode or of the desktop begins a black picture; duplicators are lost by these and by a disconnect
+abbrev pub parts : Draw → Parts
+parts (Present ops) = record (sets_nothing false false) { operations = Some ops }
+parts (drawings.Pointer position visible) =
+    record (sets_nothing false false) { pointer = Some (record { position = position; visible = visible }) }
+parts (drawings.Shape shape) = record (sets_nothing false false) { shape = Some shape }
+parts (drawings.Mode index) = sets_nothing true true
+parts (Switch secure) = sets_nothing true true
+parts Disconnect = sets_nothing false true
+parts Reconnect = sets_nothing false false
+
 abbrev pub operations_of : Draw → Option (List Op)
-operations_of (Present ops) = Some ops
-operations_of (drawings.Pointer position visible) = None
-operations_of (drawings.Shape shape) = None
-operations_of (drawings.Mode index) = None
-operations_of (Switch secure) = None
-operations_of Disconnect = None
-operations_of Reconnect = None
+operations_of d = (parts d).operations
 
--- the operations of a present; none for any other event
-abbrev pub present_of : Event → Option (List Op)
-present_of (events.Draw drawing) = operations_of drawing
-present_of (Opened slot app) = None
-present_of (Closed slot) = None
-present_of End = None
-
--- the pointer that a drawing sets; none for any other drawing
 abbrev pub pointer_given : Draw → Option Pointer
-pointer_given (Present ops) = None
-pointer_given (drawings.Pointer position visible) = Some (record { position = position; visible = visible })
-pointer_given (drawings.Shape shape) = None
-pointer_given (drawings.Mode index) = None
-pointer_given (Switch secure) = None
-pointer_given Disconnect = None
-pointer_given Reconnect = None
+pointer_given d = (parts d).pointer
 
--- the pointer that an event sets; none for any other event
-abbrev pub pointer_in : Event → Option Pointer
-pointer_in (events.Draw drawing) = pointer_given drawing
-pointer_in (Opened slot app) = None
-pointer_in (Closed slot) = None
-pointer_in End = None
-
--- the shape that a drawing gives the pointer; none for any other drawing
 abbrev pub shape_given : Draw → Option PointerShape
-shape_given (Present ops) = None
-shape_given (drawings.Pointer position visible) = None
-shape_given (drawings.Shape shape) = Some shape
-shape_given (drawings.Mode index) = None
-shape_given (Switch secure) = None
-shape_given Disconnect = None
-shape_given Reconnect = None
+shape_given d = (parts d).shape
 
--- the shape that an event gives the pointer; none for any other event
+abbrev pub draws_anew : Draw → Bool
+draws_anew d = (parts d).begins
+
+abbrev pub loses : Draw → Bool
+loses d = (parts d).loses
+
+-- and what an event does, which is no more than its drawing does
+abbrev pub drawn_parts : Event → Parts
+drawn_parts (events.Draw drawing) = parts drawing
+drawn_parts (Opened slot app) = sets_nothing false false
+drawn_parts (Closed slot) = sets_nothing false false
+drawn_parts End = sets_nothing false false
+
+abbrev pub present_of : Event → Option (List Op)
+present_of e = (drawn_parts e).operations
+
+abbrev pub pointer_in : Event → Option Pointer
+pointer_in e = (drawn_parts e).pointer
+
 abbrev pub shape_in : Event → Option PointerShape
-shape_in (events.Draw drawing) = shape_given drawing
-shape_in (Opened slot app) = None
-shape_in (Closed slot) = None
-shape_in End = None
+shape_in e = (drawn_parts e).shape
 
 -- and an entry, where there is one
 abbrev pub shape_at : Option Entry → Option PointerShape
 shape_at None = None
 shape_at (Some e) = shape_in e.event
 
--- a change of the mode or of the desktop begins a black picture
-abbrev pub draws_anew : Draw → Bool
-draws_anew (Present ops) = false
-draws_anew (drawings.Pointer position visible) = false
-draws_anew (drawings.Shape shape) = false
-draws_anew (drawings.Mode index) = true
-draws_anew (Switch secure) = true
-draws_anew Disconnect = false
-draws_anew Reconnect = false
-
 abbrev pub begins_picture : Event → Bool
-begins_picture (events.Draw drawing) = draws_anew drawing
-begins_picture (Opened slot app) = false
-begins_picture (Closed slot) = false
-begins_picture End = false
-
--- duplicators that were opened before are lost
-abbrev pub loses : Draw → Bool
-loses (Present ops) = false
-loses (drawings.Pointer position visible) = false
-loses (drawings.Shape shape) = false
-loses (drawings.Mode index) = true
-loses (Switch secure) = true
-loses Disconnect = true
-loses Reconnect = false
+begins_picture e = (drawn_parts e).begins
 
 abbrev pub cuts_off : Event → Bool
-cuts_off (events.Draw drawing) = loses drawing
-cuts_off (Opened slot app) = false
-cuts_off (Closed slot) = false
-cuts_off End = false
+cuts_off e = (drawn_parts e).loses
 
 -- a duplicator is opened
 abbrev pub is_opening : Event → Bool

@@ -14,8 +14,8 @@ use Rattle.dd_log.specs.declared.events.Draw.{Draw}
 use Rattle.dd_log.specs.declared.events.Draw.TheVariants.{Present, Switch, Disconnect, Reconnect}
 use Rattle.dd_log.specs.declared.events.Draw.TheVariants as drawings
 use Rattle.dd_log.specs.declared.events.TheConstants.{MAX_ACTORS}
-use Rattle.dd_log.specs.declared.answers.LogRefusal.{LogRefusal}
-use Rattle.dd_log.specs.declared.answers.LogRefusal.TheVariants.{Ended, Full, BadMode, BadRect}
+use Rattle.dd_log.specs.declared.refusal.LogRefusal.{LogRefusal}
+use Rattle.dd_log.specs.declared.refusal.LogRefusal.TheVariants.{Ended, Full, BadMode, BadRect}
 use Rattle.dd_log.specs.Desk.{desk_of, finds_slot}
 pub use Rattle.dd_log.specs.Events.{present_of, pointer_in, shape_in, is_present, is_pointing, begins_picture, cuts_off, is_opening, is_end, any_begins, any_cuts_off, any_presents, any_points, any_ends, last_present, last_pointed, last_shape}
 

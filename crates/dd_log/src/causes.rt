@@ -5,8 +5,8 @@ ghost use Rattle.dd_ops.specs.Operations.{first_unfit as unfit_place};
 ghost use Rattle.dd_ops.specs.declared.lists.TheConstants.{MAX_OPS};
 ghost use Rattle.dd_log.specs.History.{bad_rect, bad_draw, bad_event, verdict};
 
-use crate::answers::LogRefusal;
 use crate::events::{Draw, Event};
+use crate::refusal::LogRefusal;
 use dd_modes::{Mode, Modes};
 use dd_ops::{Op, fits};
 

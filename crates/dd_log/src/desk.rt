@@ -6,8 +6,8 @@ ghost use Rattle.dd_log.specs.Desk.{first_desk, desk_after, mode_drawn, mode_aft
 ghost use Rattle.dd_log.specs.declared.desk.TheConstants.{MAX_DUPLICATORS};
 ghost use Rattle.dd_log.specs.declared.events.TheConstants.{MAX_ACTORS, MAX_CAPACITY};
 
-use crate::answers::Pointer;
 use crate::events::{Draw, Entry, Event, MAX_ACTORS};
+use crate::pointer::Pointer;
 use dd_geom::Point;
 use dd_modes::{Mode, Modes};
 

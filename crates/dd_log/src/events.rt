@@ -3,8 +3,8 @@
 ghost use Rattle.std.specs.Prelude.{◌≡◌, IfOk, option_map};
 ghost use Rattle.dd_log.specs.Events.{operations_of, present_of, pointer_given, pointer_in, shape_given, shape_in, is_pointing, draws_anew, begins_picture, loses, cuts_off, is_end};
 
-use crate::answers::Pointer;
 use crate::lists::Apps;
+use crate::pointer::Pointer;
 use dd_geom::Point;
 use dd_modes::Modes;
 use dd_ops::Ops;

@@ -1,19 +1,15 @@
-//! The one list of an output's events, its desk, and the plain types of answers.
+//! The one list of an output's events, and its desk.
 #![tactic(auto)]
 
-mod answers;
 mod causes;
 mod desk;
 mod events;
 mod laws;
 mod lists;
 mod log;
-#[cfg(test)]
-mod tests;
+mod pointer;
+mod refusal;
 
-pub use answers::{
-    Answer, CloseRefusal, DupRefusal, FrameInfo, LogRefusal, OpenRefusal, Pointer, Role,
-};
 pub use desk::{Desk, MAX_DUPLICATORS};
 pub use events::{Draw, Entry, Event, MAX_ACTORS, MAX_CAPACITY, MAX_PRIVILEGED, Spec};
 pub use laws::{
@@ -21,5 +17,7 @@ pub use laws::{
     legal_is_shown, picture_begins, picture_goes_on, picture_since_start, veil_is_legal,
     veil_refuses, veil_shows,
 };
-pub use lists::{Apps, Rows};
+pub use lists::Apps;
 pub use log::Log;
+pub use pointer::Pointer;
+pub use refusal::LogRefusal;

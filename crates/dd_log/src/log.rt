@@ -1,20 +1,17 @@
 //! The list of an output's events, kept whole for the output's life.
 
-ghost use Rattle.std.specs.Prelude.{◌≡◌, ◌≤◌, ◌<◌, length, drop, false, None, IsTrue, IfOk, OnOk, OnErr, is_none, slice_get, option_map, unwrap_or, position, vec_capacity, vec_len, nat_lt, if◌then◌else◌};
-ghost use Rattle.std.specs.Prelude.{◌==◌};
-ghost use Rattle.std.specs.List.{list_any};
+ghost use Rattle.std.specs.Prelude.{◌≡◌, ◌==◌, ◌≤◌, ◌<◌, length, drop, false, IsTrue, IfOk, OnOk, OnErr, slice_get, option_map, vec_capacity};
 ghost use Rattle.dd_geom.specs.Rect.{IsSize};
 ghost use Rattle.dd_log.specs.declared.events.TheConstants.{MAX_ACTORS, MAX_CAPACITY};
 ghost use Rattle.dd_log.specs.Desk.{desk_of};
-ghost use Rattle.dd_log.specs.Events.{shape_at};
 ghost use Rattle.dd_log.specs.History.{legal};
 
-use crate::answers::{LogRefusal, Pointer};
+mod telling;
+
 use crate::causes::check_event;
 use crate::desk::Desk;
 use crate::events::{Entry, Event, MAX_CAPACITY, Spec};
-use dd_modes::Mode;
-use dd_pointer::Shape;
+use crate::refusal::LogRefusal;
 use std::alloc::{AllocError, Global};
 use std::marker::Model;
 
@@ -50,23 +47,6 @@ fn copies(alloc: Global, entries: &[Entry], room: usize) -> Result<Vec<Entry>, A
     Ok(items)
 }
 
-/// The place after an entry, which is its event number, where it stands from another place on; else 0.
-fn since(place: u64, after: u64) -> u64
-    ensures { result ≡ (if nat_lt place after then after else 0) }
-{
-    if place < after { after } else { 0 }
-}
-
-/// The shape that an entry gives the pointer, where there is one.
-fn shape_of(entry: Option<&Entry>) -> Option<&Shape>
-    ensures { option_map (λ shape. shape.now) result ≡ shape_at (option_map (λ e. e.now) entry.entry) }
-{
-    match entry {
-        None => None,
-        Some(entry) => entry.event.shape(),
-    }
-}
-
 /// The desk that the entries of a legal list make.
 fn desk_after(spec: &Spec, entries: &[Entry]) -> Desk
     requires legal { IsTrue (legal (record { spec = spec.now; entries = entries.now })) }
@@ -83,8 +63,8 @@ fn desk_after(spec: &Spec, entries: &[Entry]) -> Desk
 }
 
 impl Log {
-    ghost use Rattle.dd_log.specs.Desk.{finds_slot, is_app};
-    ghost use Rattle.dd_log.specs.History.{begun, first_entries, with_entry, ended_by, desk, desk_mode, may_add, refusal, verdict, is_end, is_full, last_step, entries_fit, any_begins, any_cuts_off, any_presents, any_points, any_ends, last_present, last_pointed, last_shape};
+    ghost use Rattle.dd_log.specs.Desk.{finds_slot};
+    ghost use Rattle.dd_log.specs.History.{begun, first_entries, with_entry, ended_by, desk, desk_mode, may_add, refusal, verdict, is_end, is_full, last_step, entries_fit, any_begins};
 
     /// An empty list, with memory for all entries that it may ever have.
     pub fn start(alloc: Global, spec: Spec) -> Result<Log, AllocError>
@@ -194,6 +174,13 @@ impl Log {
         self.entries.is_empty()
     }
 
+    /// Whether no place is left but the one kept for the list's end.
+    pub fn full(&self) -> bool
+        ensures { result ≡ is_full self.now }
+    {
+        self.spec.capacity as usize <= self.entries.len() + 1
+    }
+
     /// The entry with so many entries before it.
     pub fn get(&self, place: u64) -> Option<&Entry>
         ensures { option_map (λ e. e.now) result ≡ slice_get self.now.entries place }
@@ -212,139 +199,5 @@ impl Log {
     {
         let (_, after) = self.entries.as_slice().split_at(place as usize);
         after
-    }
-
-    /// Whether an entry from a place on loses the duplicators that were opened before it.
-    pub fn cut_off_since(&self, place: u64) -> bool
-        ensures { result ≡ any_cuts_off (drop place self.now.entries) }
-    {
-        place < self.desk.cut_off
-    }
-
-    /// Whether there is a present from a place on.
-    pub fn presented_since(&self, place: u64) -> bool
-        ensures { result ≡ any_presents (drop place self.now.entries) }
-    {
-        place < self.desk.presented
-    }
-
-    /// The event number, from 1, of the last present from a place on; 0 where there is none.
-    pub fn last_present(&self, place: u64) -> u64
-        ensures { result ≡ last_present place (drop place self.now.entries) }
-    {
-        since(place, self.desk.presented)
-    }
-
-    /// Whether the pointer or its shape is set from a place on.
-    pub fn pointed_since(&self, place: u64) -> bool
-        ensures { result ≡ any_points (drop place self.now.entries) }
-    {
-        place < self.desk.pointed
-    }
-
-    /// The event number, from 1, of the last entry from a place on that sets the pointer or its
-    /// shape; 0 where there is none.
-    pub fn last_pointed(&self, place: u64) -> u64
-        ensures { result ≡ last_pointed place (drop place self.now.entries) }
-    {
-        since(place, self.desk.pointed)
-    }
-
-    /// The last shape that the pointer gets from a place on, if it gets one.
-    pub fn shape_since(&self, place: u64) -> Option<&Shape>
-        ensures { option_map (λ shape. shape.now) result ≡ last_shape (drop place self.now.entries) }
-    {
-        if place < self.desk.shaped {
-            shape_of(self.get(self.desk.shaped - 1))
-        } else {
-            None
-        }
-    }
-
-    /// The pointer of the desk.
-    pub fn pointer(&self) -> Pointer
-        ensures { result ≡ (desk self.now).pointer }
-    {
-        self.desk.pointer
-    }
-
-    /// The last step of an actor, 0 where it has none.
-    pub fn last_step(&self, actor: u32) -> u32
-        ensures { result ≡ last_step self.now.entries actor }
-    {
-        self.desk.step_of(actor)
-    }
-
-    /// The mode of the desk.
-    pub fn mode(&self) -> Mode
-        ensures value { result ≡ desk_mode self.now }
-        ensures size { IsSize result.width result.height }
-    {
-        self.desk.mode
-    }
-
-    /// Whether the desktop is secure.
-    pub fn secure(&self) -> bool
-        ensures { result ≡ (desk self.now).secure }
-    {
-        self.desk.secure
-    }
-
-    /// Whether the session is connected.
-    pub fn connected(&self) -> bool
-        ensures { result ≡ (desk self.now).connected }
-    {
-        self.desk.connected
-    }
-
-    /// Whether the list has ended.
-    pub fn ended(&self) -> bool
-        ensures value { result ≡ (desk self.now).ended }
-        ensures plain { result ≡ any_ends self.now.entries }
-    {
-        self.desk.ended
-    }
-
-    /// Whether no place is left but the one kept for the list's end.
-    pub fn full(&self) -> bool
-        ensures { result ≡ is_full self.now }
-    {
-        self.spec.capacity as usize <= self.entries.len() + 1
-    }
-
-    /// The place after the last entry that begins a picture, else 0.
-    pub fn picture_start(&self) -> u64
-        ensures value { result ≡ (desk self.now).picture_start }
-        ensures within { result ≤ length self.now.entries }
-    {
-        self.desk.picture_start
-    }
-
-    /// The slot, 0 to 3, that is open for an application.
-    pub fn slot_of(&self, app: u32) -> Option<u32>
-        ensures { result ≡ position (is_app app) (desk self.now).slots }
-    {
-        self.desk.slot_of(app)
-    }
-
-    /// The least slot that is free.
-    pub fn free_slot(&self) -> Option<u32>
-        ensures { result ≡ position is_none (desk self.now).slots }
-    {
-        self.desk.free_slot()
-    }
-
-    /// The application that a slot is open for; none where it is free, or no slot.
-    pub fn app_of(&self, slot: u32) -> Option<u32>
-        ensures { result ≡ unwrap_or (slice_get (desk self.now).slots slot) None }
-    {
-        self.desk.app_of(slot)
-    }
-
-    /// Whether an application may duplicate a secure desktop.
-    pub fn privileged(&self, app: u32) -> bool
-        ensures { result ≡ list_any (λ other. other == app) self.now.spec.privileged }
-    {
-        self.spec.privileged.contains(app)
     }
 }

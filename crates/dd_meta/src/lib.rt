@@ -3,8 +3,6 @@
 
 mod buffer;
 mod laws;
-#[cfg(test)]
-mod tests;
 
 pub use buffer::{MAX_METADATA, MOVES_BUFFER, RECTS_BUFFER, put_bytes, put_moves, put_rects};
 pub use laws::{metadata_is_short, moves_fit, rects_fit};

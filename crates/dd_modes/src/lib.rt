@@ -3,8 +3,6 @@
 
 mod laws;
 mod modes;
-#[cfg(test)]
-mod tests;
 mod turning;
 
 pub use laws::turning_is_one_to_one;

@@ -4,8 +4,6 @@
 mod laws;
 mod lists;
 mod operations;
-#[cfg(test)]
-mod tests;
 
 pub use dd_grid::COLOURS;
 pub use laws::{

@@ -6,8 +6,6 @@ mod kind;
 mod laws;
 mod pixel;
 mod shape;
-#[cfg(test)]
-mod tests;
 
 pub use compositing::compose;
 pub use kind::{Kind, MAX_BYTES, MAX_HEIGHT, MAX_MASK_HEIGHT, MAX_WIDTH};

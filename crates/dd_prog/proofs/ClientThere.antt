@@ -5,10 +5,10 @@ use Rattle.dd_prog.specs.declared.fault.InputFault.{InputFault}
 use Rattle.dd_prog.specs.declared.fault.InputFault.TheVariants as causes
 use Rattle.dd_prog.specs.Commands.{replay_work, record_work}
 use Rattle.dd_prog.specs.Exchange.{Side, IfTold}
-use Rattle.dd_prog.specs.Outcome.{Reads, FitsRead}
+use Rattle.dd_prog.specs.Outcome.{ReadsInput, FitsRead}
 
 pub no_record : {S : Type 0} (fault : InputFault) (client : ℕ) (source : Side S)
-    → Reads replay_work source (Err fault) → Reads (record_work client) source (Err fault)
+    → ReadsInput replay_work source (Err fault) → ReadsInput (record_work client) source (Err fault)
 no_record causes.BadInput client source reads = (reads.0, reads.1, λ i is. reads.2 i is.0)
 no_record causes.TooLong client source reads = reads
 no_record causes.Failed client source reads = reads

@@ -6,7 +6,7 @@ use Rattle.dd_prog.specs.declared.status.Status.{Status}
 use Rattle.dd_prog.specs.declared.status.Status.TheVariants.{Done, OutOfMemory, BadWords, TooLong, BadScript, BadRecord, ReadFault, WriteFault}
 use Rattle.dd_prog.specs.Commands.{Work, Task, works, makes, IsNoInput}
 use Rattle.dd_prog.specs.Exchange.{Exchange, Side, Faulted, GaveAll, GaveMore, Took, TookFront, IfTold}
-use Rattle.dd_prog.specs.Outcome.{Ran, Refuses, Ends, Fits, Completes, Makes, TaskEnds, TaskFits, TaskCompletes}
+use Rattle.dd_prog.specs.Outcome.{Ran, RefusesInput, Ends, FitsStatus, Completes, Makes, TaskEnds, TaskFits, TaskCompletes}
 
 -- ---- all the bytes of a source
 
@@ -31,11 +31,11 @@ nothing_said None = tt
 nothing_said (Some bs) = tt
 
 of_input : {S K : Type 0} (w : Work) (x : Exchange S K) (P : List ℕ → Type 0) → Ran w x P
-    → IfTold x.source (Fits w Done)
+    → IfTold x.source (FitsStatus w Done)
 of_input w x P ran =
-    all_told x.source w.limit ran.0 (Fits w Done) ran.2 (ran.2.within, (ran.1, ran.3))
+    all_told x.source w.limit ran.0 (FitsStatus w Done) ran.2 (ran.2.within, (ran.1, ran.3))
 
-of_no_input : (status : Status) {S K : Type 0} (w : Work) (x : Exchange S K) → Refuses w x status
+of_no_input : (status : Status) {S K : Type 0} (w : Work) (x : Exchange S K) → RefusesInput w x status
     → IfTold x.source (λ bs. (w.bad_input ≡ status) × (length bs ≤ w.limit) × IsNoInput w bs)
 of_no_input status w x refuses =
     let none = refuses.1 in
@@ -44,7 +44,7 @@ of_no_input status w x refuses =
 
 -- what a status says of the bytes that came, it says of all
 pub ends_fits : (status : Status) {S K : Type 0} (w : Work) (x : Exchange S K) → Ends w x status
-    → IfTold x.source (Fits w status)
+    → IfTold x.source (FitsStatus w status)
 ends_fits Done w x ends = of_input w x (Took x.sink) ends
 ends_fits OutOfMemory w x ends = nothing_said (x.source.bytes x.source.old)
 ends_fits BadWords w x ends = absurd ends
@@ -58,7 +58,7 @@ ends_fits WriteFault w x ends = of_input w x (TookFront x.sink) ends.0
 
 -- each other status has a cause that doesn't stand
 completes : (status : Status) {S K : Type 0} (w : Work) (x : Exchange S K) (bs : List ℕ) → Ends w x status
-    → Fits w status bs → Completes w x status bs
+    → FitsStatus w status bs → Completes w x status bs
 completes Done w x bs ends fits has read write = inl refl
 completes OutOfMemory w x bs ends fits has read write = inr refl
 completes BadWords w x bs ends fits has read write = absurd fits
@@ -70,9 +70,9 @@ completes WriteFault w x bs ends fits has read write = absurd (write ends.1)
 
 -- of a source that tells its bytes
 told_completes : (status : Status) {S K : Type 0} (w : Work) (x : Exchange S K) → Ends w x status
-    → IfTold x.source (Fits w status) → IfTold x.source (Completes w x status)
+    → IfTold x.source (FitsStatus w status) → IfTold x.source (Completes w x status)
 told_completes status w x ends fits = by_bytes (x.source.bytes x.source.old) fits where
-  by_bytes : (o : Option (List ℕ)) → IfSome o (Fits w status) → IfSome o (Completes w x status)
+  by_bytes : (o : Option (List ℕ)) → IfSome o (FitsStatus w status) → IfSome o (Completes w x status)
   by_bytes None fits = tt
   by_bytes (Some bs) fits = completes status w x bs ends fits
 

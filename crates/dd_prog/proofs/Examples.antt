@@ -11,10 +11,10 @@ use Rattle.dd_log.specs.Desk.{desk_of, desk_after, first_desk}
 use Rattle.dd_log.specs.Picture.{state_of, picture, presents}
 use Rattle.dd_dup.specs.News.{dirt_of, picture_news}
 use Rattle.dd_station.specs.Run.{next, run}
-use Rattle.dd_script.specs.Script.{script_of}
-use Rattle.dd_script.specs.Texts.{text}
-use Rattle.dd_script.proofs.OnLiterals.{script_on_literals, answers_on_literals}
-use Rattle.dd_prog.specs.declared.reading.TheConstants.{MAX_SCRIPT_BYTES}
+use Rattle.dd_script_read.specs.Script.{script_of}
+use Rattle.dd_script_write.specs.Texts.{text}
+use Rattle.dd_script_read.proofs.OnLiterals.{script_on_literals}
+use Rattle.dd_script_write.proofs.OnLiterals.{answers_on_literals}
 
 -- the texts with commas between them
 abbrev separated : List (List ℕ) → List ℕ
@@ -145,7 +145,3 @@ runs : OneFill × InBands × DirtIsCarried × SeventeenScrolls × AnImage × Mov
 unfolding script_on_literals next run picture state_of desk_of desk_after first_desk presents dirtied dirt is_coalesced moves
     canonical_list same_rows run_end tiles power least_power_from dirt_of picture_news answers_on_literals
 runs = (refl, refl, refl, refl, refl, refl)
-
--- the longest script, in bytes
-longest_script : MAX_SCRIPT_BYTES ≡ 16777216
-longest_script = refl

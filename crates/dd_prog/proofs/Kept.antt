@@ -9,7 +9,7 @@ use Rattle.dd_io.proofs.Pieces.{AppendsPrefix-next}
 use Rattle.dd_prog.specs.declared.fault.RunFault.{RunFault}
 use Rattle.dd_prog.specs.declared.fault.RunFault.TheVariants as faults
 use Rattle.dd_prog.specs.Exchange.{side, Took}
-use Rattle.dd_prog.specs.Outcome.{Writes}
+use Rattle.dd_prog.specs.Outcome.{WritesText}
 use Rattle.dd_prog.specs.Keeping.{Adds}
 
 -- a front of a text is a front of a longer one
@@ -30,8 +30,8 @@ front_of_all a b c wrote next rest all is took front =
 -- bytes were written, and then a run stopped in others: it stopped in all of them
 pub stopped_in_all : (fault : RunFault) {K : Type 0} (held : K → Option (List ℕ)) (count : K → ℕ) (a b c : K)
     (wrote next rest all : List ℕ) → wrote ++ (next ++ rest) ≡ all → count a ≤ count b
-    → Took (side held count a b) wrote → Writes (side held count b c) next (Err fault)
-    → Writes (side held count a c) all (Err fault)
+    → Took (side held count a b) wrote → WritesText (side held count b c) next (Err fault)
+    → WritesText (side held count a c) all (Err fault)
 stopped_in_all faults.OutOfMemory held count a b c wrote next rest all is later took writes =
     front_of_all (held a) (held b) (held c) wrote next rest all is took writes
 stopped_in_all faults.WriteFault held count a b c wrote next rest all is later took writes =
@@ -42,7 +42,7 @@ stopped_in_all faults.WriteFault held count a b c wrote next rest all is later t
 -- what was kept was written, and then a line
 pub then_line : (r : Result (Unit {0}) RunFault) {K : Type 0} (held : K → Option (List ℕ)) (count : K → ℕ) (a b c : K)
     (kept now line : List ℕ) → Took (side held count a b) kept → now ≡ [] → count a ≤ count b
-    → Writes (side held count b c) line r → Adds (side held count a c) kept now line r
+    → WritesText (side held count b c) line r → Adds (side held count a c) kept now line r
 then_line (Ok x) held count a b c kept now line took none later writes = (
   kept ++ line,
   Appends-trans (held a) (held b) (held c) kept line took writes,
@@ -54,14 +54,14 @@ then_line (Err fault) held count a b c kept now line took none later writes =
 
 -- a run stopped in the first bytes: it stopped in all of them
 pub stopped_in_first : (fault : RunFault) {K : Type 0} (held : K → Option (List ℕ)) (count : K → ℕ) (a b : K)
-    (xs ys : List ℕ) → Writes (side held count a b) xs (Err fault) → Writes (side held count a b) (xs ++ ys) (Err fault)
+    (xs ys : List ℕ) → WritesText (side held count a b) xs (Err fault) → WritesText (side held count a b) (xs ++ ys) (Err fault)
 stopped_in_first fault held count a b xs ys writes =
     stopped_in_all fault held count a a b [] xs ys (xs ++ ys) refl (omega arith) (Appends-nil (held a)) writes
 
 -- bytes were written, and then others
 pub then_others : (r : Result (Unit {0}) RunFault) {K : Type 0} (held : K → Option (List ℕ)) (count : K → ℕ)
     (a b c : K) (xs ys : List ℕ) → Took (side held count a b) xs → count a ≤ count b
-    → Writes (side held count b c) ys r → Writes (side held count a c) (xs ++ ys) r
+    → WritesText (side held count b c) ys r → WritesText (side held count a c) (xs ++ ys) r
 then_others (Ok x) held count a b c xs ys took later writes = Appends-trans (held a) (held b) (held c) xs ys took writes
 then_others (Err fault) held count a b c xs ys took later writes =
     stopped_in_all fault held count a b c xs ys [] (xs ++ ys) (ap (λ zs. xs ++ zs) (append-nil ys)) later took writes

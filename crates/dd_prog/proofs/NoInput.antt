@@ -1,8 +1,8 @@
 -- What it says of bytes that they are no input of a command.
 use Rattle.std.proofs.Common.{◌≡◌, ◌⊎◌, inl, inr, ℕ, ◌<◌, ◌≤◌, List, Option, Some, None, Result, Ok, Err, refl}
 use Rattle.dd_record.specs.declared.fault.RecordFault.{RecordFault}
-use Rattle.dd_script.specs.Reading.{IsNoScript}
-use Rattle.dd_script.specs.Script.{script_of}
+use Rattle.dd_script_read.specs.Reading.{IsNoScript}
+use Rattle.dd_script_read.specs.Script.{script_of}
 use Rattle.dd_view.specs.Playing.{Shown}
 use Rattle.dd_view.specs.Player.{reader_of, finish_answer}
 use Rattle.dd_view.proofs.Asked.{ShownFrom, reader_keeps}

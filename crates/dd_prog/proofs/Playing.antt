@@ -4,13 +4,14 @@ use Rattle.std.specs.List.{AllByRecursion}
 use Rattle.std.specs.Io.KnownBytes.{Appends}
 use Rattle.std.proofs.lemmas.List.{drop_all}
 use Rattle.std.proofs.KnownBytes.{Appends-nil, Appends-trans}
-use Rattle.dd_station.specs.declared.steps.Step.{Step}
-use Rattle.dd_station.specs.Run.{State, next, answers, IsOfClient}
+use Rattle.dd_calls.specs.declared.steps.Step.{Step}
+use Rattle.dd_station.specs.Run.{State, next, answers}
+use Rattle.dd_calls.specs.Calls.{IsOfClient}
 use Rattle.dd_station.proofs.Stepped.{stepped_next}
-use Rattle.dd_script.specs.Texts.{line, text}
+use Rattle.dd_script_write.specs.Texts.{line, text}
 use Rattle.dd_prog.specs.declared.fault.RunFault.{RunFault}
 use Rattle.dd_prog.specs.Exchange.{Side, side, Took}
-use Rattle.dd_prog.specs.Outcome.{Writes}
+use Rattle.dd_prog.specs.Outcome.{WritesText}
 use Rattle.dd_prog.specs.Keeping.{KeepsRest}
 use Rattle.dd_prog.proofs.Kept.{stopped_in_all}
 
@@ -102,7 +103,7 @@ so_far_more held count a b c kept now first state later ss k t so k_in is keeps 
 -- all steps were played, and what was kept is written
 pub so_far_all : (r : Result (Unit {0}) RunFault) {K : Type 0} (held : K → Option (List ℕ)) (count : K → ℕ) (a b c : K)
     (kept : List ℕ) (first state : State) (ss : List Step) (k : ℕ) → SoFar (side held count a b) kept first state ss k
-    → length ss ≤ k → Writes (side held count b c) kept r → Writes (side held count a c) (text (answers first ss)) r
+    → length ss ≤ k → WritesText (side held count b c) kept r → WritesText (side held count a c) (text (answers first ss)) r
 so_far_all (Ok x) held count a b c kept first state ss k so all writes =
     let none_left = sym (text-none state) ∙ ap (λ ts. text (answers state ts)) (sym (drop_all k ss all)) in
     subst (Appends (held a) (held c))
@@ -115,8 +116,8 @@ so_far_all (Err fault) held count a b c kept first state ss k so all writes =
 -- what a run wrote, where one of its steps stopped it
 pub stopped : (fault : RunFault) {K : Type 0} (held : K → Option (List ℕ)) (count : K → ℕ) (a b c : K) (kept : List ℕ)
     (first state : State) (ss : List Step) (k : ℕ) (t : Step) → SoFar (side held count a b) kept first state ss k
-    → k < length ss → t ≡ get_or ss k t → Writes (side held count b c) (kept ++ line (next state t).0) (Err fault)
-    → Writes (side held count a c) (text (answers first ss)) (Err fault)
+    → k < length ss → t ≡ get_or ss k t → WritesText (side held count b c) (kept ++ line (next state t).0) (Err fault)
+    → WritesText (side held count a c) (text (answers first ss)) (Err fault)
 stopped fault held count a b c kept first state ss k t so k_in is writes =
     let lines = line (next state t).0 in
     let rest = text (answers (next state t).1 (drop (k + 1) ss)) in

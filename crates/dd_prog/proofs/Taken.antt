@@ -5,7 +5,7 @@ use Rattle.std.proofs.lemmas.List.{take-append-drop}
 use Rattle.std.proofs.lemmas.Slice.Eq.{bytes_eq-Decides}
 use Rattle.clap.specs.Words.{is_simple, takes}
 use Rattle.clap.proofs.OnLiterals.{clap_on_literals}
-use Rattle.dd_station.specs.declared.steps.TheConstants.{MAX_CLIENTS}
+use Rattle.dd_calls.specs.declared.steps.TheConstants.{MAX_CLIENTS}
 use Rattle.dd_prog.specs.declared.command.Command.{Command}
 use Rattle.dd_prog.specs.declared.command.Command.TheVariants.{Replay, Record, View, Gen, Sum}
 use Rattle.dd_prog.specs.declared.command.TheConstants.{MAX_FRAME}

@@ -1,13 +1,13 @@
 -- The commands, and what each does.
 use Rattle.std.specs.Prelude.{◌≡◌, ℕ, ◌≤◌, Bool, true, false, codes, List, [], ◌∷◌, length, Option, Some, None, option_map, Ok, if◌then◌else◌}
 use Rattle.std.specs.Str.{bytes_eq}
-use Rattle.dd_station.specs.declared.steps.Script.{Script}
-use Rattle.dd_station.specs.declared.steps.TheConstants.{MAX_CLIENTS}
+use Rattle.dd_calls.specs.declared.steps.Script.{Script}
+use Rattle.dd_calls.specs.declared.steps.TheConstants.{MAX_CLIENTS}
 use Rattle.dd_station.specs.Run.{run}
-use Rattle.dd_station.specs.Counting.{counts_of}
+use Rattle.dd_calls.specs.Counting.{counts_of}
 use Rattle.dd_gen.specs.Generator.{made}
-use Rattle.dd_script.specs.Reading.{IsScript}
-use Rattle.dd_script.specs.Texts as texts
+use Rattle.dd_script_read.specs.Reading.{IsScript}
+use Rattle.dd_script_write.specs.Texts as texts
 use Rattle.dd_view.specs.Playing.{Shown}
 use Rattle.dd_view.specs.Ppm.{ppm_text}
 use Rattle.dd_view.specs.Player.{reader_of, finish_answer}

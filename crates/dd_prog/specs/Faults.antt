@@ -1,8 +1,8 @@
 -- Causes for which a command's input isn't read, by the faults of the parts.
 use Rattle.dd_io.specs.declared.fault.ReadUpFault.{ReadUpFault}
 use Rattle.dd_io.specs.declared.fault.ReadUpFault.TheVariants as reading
-use Rattle.dd_script.specs.declared.fault.ScriptFault.{ScriptFault}
-use Rattle.dd_script.specs.declared.fault.ScriptFault.TheVariants as scripts
+use Rattle.dd_script_read.specs.declared.fault.ScriptFault.{ScriptFault}
+use Rattle.dd_script_read.specs.declared.fault.ScriptFault.TheVariants as scripts
 use Rattle.dd_record.specs.declared.fault.RecordFault.{RecordFault}
 use Rattle.dd_record.specs.declared.fault.RecordFault.TheVariants as records
 use Rattle.dd_prog.specs.declared.fault.InputFault.{InputFault}

@@ -2,8 +2,8 @@
 -- words.
 use Rattle.std.specs.Prelude.{ℕ, List, [], Option, Some, None}
 use Rattle.dd_modes.specs.declared.modes.Mode.{Mode}
-use Rattle.dd_log.specs.declared.answers.Answer.{Answer}
-use Rattle.dd_log.specs.declared.answers.Answer.TheVariants.{Opened, Frame}
+use Rattle.dd_calls.specs.declared.answers.Answer.{Answer}
+use Rattle.dd_calls.specs.declared.answers.Answer.TheVariants.{Opened, Frame}
 use Rattle.dd_dup.specs.Duplicator.{Duplicator}
 use Rattle.dd_record.specs.declared.chunk.Chunk.{Chunk}
 use Rattle.dd_record.specs.Frames.{held_bytes}

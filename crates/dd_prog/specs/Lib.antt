@@ -12,6 +12,4 @@ pub mod Whole
 pub mod Viewing
 pub mod Recording
 pub mod Leaving
-pub mod RecordAndView
 pub mod Telling
-pub mod Generated

@@ -11,12 +11,12 @@ use Rattle.dd_prog.specs.Commands.{Work, Task, works, makes, task, IsNoInput}
 use Rattle.dd_prog.specs.Exchange.{Side, Exchange, Idle, Faulted, GaveAll, GaveMore, Took, TookFront, IfTold}
 
 -- the command's input that all the bytes are, or why there is none
-abbrev pub Reads : {S : Type 0} → (w : Work) → Side S → Result w.Input InputFault → Type 0
-Reads w source (Ok i) = (b : List ℕ) × GaveAll source w.limit b × w.accepts b i
-Reads w source (Err causes.BadInput) = (b : List ℕ) × GaveAll source w.limit b × IsNoInput w b
-Reads w source (Err causes.TooLong) = GaveMore source w.limit
-Reads w source (Err causes.Failed) = Faulted source
-Reads w source (Err causes.OutOfMemory) = Unit {0}
+abbrev pub ReadsInput : {S : Type 0} → (w : Work) → Side S → Result w.Input InputFault → Type 0
+ReadsInput w source (Ok i) = (b : List ℕ) × GaveAll source w.limit b × w.accepts b i
+ReadsInput w source (Err causes.BadInput) = (b : List ℕ) × GaveAll source w.limit b × IsNoInput w b
+ReadsInput w source (Err causes.TooLong) = GaveMore source w.limit
+ReadsInput w source (Err causes.Failed) = Faulted source
+ReadsInput w source (Err causes.OutOfMemory) = Unit {0}
 
 -- what the bytes of a source that tells them are, by what was read; a fault and want of memory say nothing
 abbrev pub FitsRead : (w : Work) → Result w.Input InputFault → List ℕ → Type 0
@@ -27,18 +27,18 @@ FitsRead w (Err causes.Failed) bs = Unit {0}
 FitsRead w (Err causes.OutOfMemory) bs = Unit {0}
 
 -- a run wrote all of its text, or a front of it and why no more
-abbrev pub Writes : {K : Type 0} → Side K → List ℕ → Result (Unit {0}) RunFault → Type 0
-Writes sink text (Ok x) = Took sink text
-Writes sink text (Err faults.OutOfMemory) = TookFront sink text
-Writes sink text (Err faults.WriteFault) = TookFront sink text × Faulted sink
+abbrev pub WritesText : {K : Type 0} → Side K → List ℕ → Result (Unit {0}) RunFault → Type 0
+WritesText sink text (Ok x) = Took sink text
+WritesText sink text (Err faults.OutOfMemory) = TookFront sink text
+WritesText sink text (Err faults.WriteFault) = TookFront sink text × Faulted sink
 
 -- the bytes that came are an input of the command, and P holds of its text
 abbrev pub Ran : {S K : Type 0} → Work → Exchange S K → (List ℕ → Type 0) → Type 0
 Ran w x P = (b : List ℕ) × (i : w.Input) × GaveAll x.source w.limit b × w.accepts b i × P (w.text i)
 
 -- the bytes that came are no input of the command, for which it has this status, and nothing was written
-abbrev pub Refuses : {S K : Type 0} → Work → Exchange S K → Status → Type 0
-Refuses w x status =
+abbrev pub RefusesInput : {S K : Type 0} → Work → Exchange S K → Status → Type 0
+RefusesInput w x status =
     (w.bad_input ≡ status) × ((b : List ℕ) × GaveAll x.source w.limit b × IsNoInput w b) × Idle x.sink
 
 -- What the status of a command says: of the bytes that came and went, of the counts of faults, and that a sink which
@@ -48,8 +48,8 @@ Ends w x Done = Ran w x (Took x.sink)
 Ends w x OutOfMemory = Idle x.sink ⊎ ((w.in_parts ≡ true) × Ran w x (TookFront x.sink))
 Ends w x BadWords = ⊥
 Ends w x TooLong = GaveMore x.source w.limit × Idle x.sink
-Ends w x BadScript = Refuses w x BadScript
-Ends w x BadRecord = Refuses w x BadRecord
+Ends w x BadScript = RefusesInput w x BadScript
+Ends w x BadRecord = RefusesInput w x BadRecord
 Ends w x ReadFault = Faulted x.source × Idle x.sink
 Ends w x WriteFault = Ran w x (TookFront x.sink) × Faulted x.sink
 
@@ -62,15 +62,15 @@ abbrev pub HasNoInput : Work → List ℕ → Status → Type 0
 HasNoInput w bs status = (w.bad_input ≡ status) × (length bs ≤ w.limit) × IsNoInput w bs
 
 -- what the bytes of a source that tells them are, by the status; a read fault and want of memory say nothing
-abbrev pub Fits : Work → Status → List ℕ → Type 0
-Fits w Done bs = HasInput w bs
-Fits w OutOfMemory bs = Unit {0}
-Fits w BadWords bs = ⊥
-Fits w TooLong bs = w.limit < length bs
-Fits w BadScript bs = HasNoInput w bs BadScript
-Fits w BadRecord bs = HasNoInput w bs BadRecord
-Fits w ReadFault bs = Unit {0}
-Fits w WriteFault bs = HasInput w bs
+abbrev pub FitsStatus : Work → Status → List ℕ → Type 0
+FitsStatus w Done bs = HasInput w bs
+FitsStatus w OutOfMemory bs = Unit {0}
+FitsStatus w BadWords bs = ⊥
+FitsStatus w TooLong bs = w.limit < length bs
+FitsStatus w BadScript bs = HasNoInput w bs BadScript
+FitsStatus w BadRecord bs = HasNoInput w bs BadRecord
+FitsStatus w ReadFault bs = Unit {0}
+FitsStatus w WriteFault bs = HasInput w bs
 
 -- Where the bytes are an input within the limit and neither count rose, all is done, unless memory is wanting.
 abbrev pub Completes : {S K : Type 0} → Work → Exchange S K → Status → List ℕ → Type 0
@@ -96,7 +96,7 @@ TaskEnds (makes text) x status = Idle x.source × Makes text x.sink status
 
 -- what a status says of a source that tells its bytes, where the command reads them
 abbrev pub TaskFits : {S : Type 0} → Task → Side S → Status → Type 0
-TaskFits (works w) source status = IfTold source (Fits w status)
+TaskFits (works w) source status = IfTold source (FitsStatus w status)
 TaskFits (makes text) source status = Unit {0}
 
 -- Where nothing stands against it, all is done, unless memory is wanting.

@@ -9,7 +9,7 @@ use Rattle.dd_prog.specs.declared.fault.InputFault.{InputFault}
 use Rattle.dd_prog.specs.declared.fault.InputFault.TheVariants as causes
 use Rattle.dd_prog.specs.Commands.{Work, view_work, IsRecordShowing, IsNoInput}
 use Rattle.dd_prog.specs.Exchange.{Side, GaveAll}
-use Rattle.dd_prog.specs.Outcome.{Reads}
+use Rattle.dd_prog.specs.Outcome.{ReadsInput}
 
 -- A player that was fed some bytes has read them; or the first fault that was found is theirs, unless memory was
 -- wanting.
@@ -22,13 +22,13 @@ Fed asked b (Some fault) player = feed_answer (reader_of asked b) ≡ Err fault
 abbrev pub FedAll : {S : Type 0} → ℕ → Side S → Result (Option RecordFault) InputFault → Reader → Type 0
 FedAll asked source (Ok fault) player =
     (b : List ℕ) × GaveAll source (view_work asked).limit b × Fed asked b fault player
-FedAll asked source (Err cause) player = Reads (view_work asked) source (Err cause)
+FedAll asked source (Err cause) player = ReadsInput (view_work asked) source (Err cause)
 
 -- the text that a command writes for the input that all the bytes are; or why there is none
 abbrev pub Texts : {S : Type 0} → Work → Side S → Result (List ℕ) InputFault → Type 0
 Texts w source (Ok text) =
     (b : List ℕ) × (i : w.Input) × GaveAll source w.limit b × w.accepts b i × (text ≡ w.text i)
-Texts w source (Err cause) = Reads w source (Err cause)
+Texts w source (Err cause) = ReadsInput w source (Err cause)
 
 -- the text of what is shown, unless memory was wanting; where nothing is, the record is a bad input
 abbrev pub Pictures : Option Shown → Result (List ℕ) InputFault → Type 0

@@ -4,7 +4,7 @@ ghost use Rattle.std.specs.Prelude.{◌≡◌, ◌↔◌, ◌≤◌, None, IfSom
 ghost use Rattle.dd_prog.specs.Commands.{command_of, task, IsCounted};
 ghost use Rattle.dd_prog.specs.Exchange.{side};
 ghost use Rattle.dd_prog.specs.Outcome.{TaskEnds, TaskFits, TaskCompletes};
-ghost use Rattle.dd_prog.specs.Telling.{Tells};
+ghost use Rattle.dd_prog.specs.Telling.{ToldByTrace};
 
 use crate::command_line::command_of;
 use crate::making::{write_counts, write_script};
@@ -92,7 +92,7 @@ pub fn plain<S: Source, K: Sink>(
     // What was written is told by the trace of one script, of which each step is right: each frame,
     // each surface and each refusal.
     ensures headline { result ≡ Status.Done → IfSome (command_of (map string_bytes words.now.items)) (λ c.
-        Tells c (record {
+        ToldByTrace c (record {
           source = side S.left S.faults source.old source.new;
           sink = side K.held K.faults sink.old sink.new;
         })) }

@@ -13,8 +13,8 @@ use crate::command::{Command, MAX_FRAME};
 use crate::options::{number_given, numeral};
 use clap::error::ErrorKind;
 use clap::{Arg, ArgMatches, Error};
+use dd_calls::MAX_CLIENTS;
 use dd_io::OutOfMemory;
-use dd_station::MAX_CLIENTS;
 use std::alloc::Global;
 
 /// Whether the words are a command.

@@ -7,7 +7,7 @@ ghost use Rattle.dd_prog.specs.Faults.{cause_of_read, cause_of_script, cause_of_
 
 use dd_io::{Failed, OutOfMemory, ReadUpFault};
 use dd_record::RecordFault;
-use dd_script::ScriptFault;
+use dd_script_read::ScriptFault;
 use std::alloc::AllocError;
 use thiserror::Error;
 

@@ -2,7 +2,7 @@
 
 ghost use Rattle.std.specs.Prelude.{◌≡◌, ◌++◌, ◌≤◌, [], OnOk, Err, if◌then◌else◌};
 ghost use Rattle.dd_prog.specs.Exchange.{side};
-ghost use Rattle.dd_prog.specs.Outcome.{Writes};
+ghost use Rattle.dd_prog.specs.Outcome.{WritesText};
 ghost use Rattle.dd_prog.specs.Keeping.{Adds};
 
 use crate::fault::RunFault;
@@ -12,7 +12,7 @@ use dd_io::{Sink, write_all};
 const PIECE: usize = 65_536;
 
 fn write_bytes<K: Sink>(bytes: &[u8], sink: &mut K) -> Result<(), RunFault>
-    ensures wrote { Writes (side K.held K.faults sink.old sink.new) bytes.now result }
+    ensures wrote { WritesText (side K.held K.faults sink.old sink.new) bytes.now result }
     ensures later { K.faults sink.old ≤ K.faults sink.new }
 {
     write_all(sink, bytes)?;
@@ -21,7 +21,7 @@ fn write_bytes<K: Sink>(bytes: &[u8], sink: &mut K) -> Result<(), RunFault>
 
 /// Writes the bytes that are kept.
 pub(crate) fn write_kept<K: Sink>(kept: &mut Vec<u8>, sink: &mut K) -> Result<(), RunFault>
-    ensures wrote { Writes (side K.held K.faults sink.old sink.new) kept.old.items result }
+    ensures wrote { WritesText (side K.held K.faults sink.old sink.new) kept.old.items result }
     ensures none { OnOk result (kept.new.items ≡ []) }
     ensures later { K.faults sink.old ≤ K.faults sink.new }
 {
@@ -55,7 +55,7 @@ pub(crate) fn put_line<K: Sink>(
 
 /// Writes the bytes that are kept, since there is no memory to go on; says why no more was written.
 pub(crate) fn stop<K: Sink>(kept: &mut Vec<u8>, sink: &mut K) -> RunFault
-    ensures wrote { Writes (side K.held K.faults sink.old sink.new) kept.old.items (Err result) }
+    ensures wrote { WritesText (side K.held K.faults sink.old sink.new) kept.old.items (Err result) }
     ensures later { K.faults sink.old ≤ K.faults sink.new }
 {
     match write_kept(kept, sink) {

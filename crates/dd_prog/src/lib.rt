@@ -6,7 +6,6 @@ mod command;
 mod command_line;
 mod fault;
 mod keeping;
-mod laws;
 mod making;
 mod options;
 mod output;
@@ -20,14 +19,7 @@ mod viewing;
 
 pub use arguments::{WordsFault, words};
 pub use command::{Command, MAX_FRAME, plain};
-pub use laws::{
-    made_scripts_are_granted, made_scripts_are_readable, records_are_read, records_are_viewed,
-    records_play_back, records_show_frames,
-};
 pub use program::run;
 pub use reading::{MAX_RECORD_BYTES, MAX_SCRIPT_BYTES};
 pub use reporting::report;
 pub use status::Status;
-
-#[cfg(test)]
-mod tests;

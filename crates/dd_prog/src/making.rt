@@ -2,20 +2,21 @@
 
 ghost use Rattle.std.specs.Prelude.{◌≡◌, ◌-◌, ◌^◌, ◌≤◌, ◌<◌, length, IfOk};
 ghost use Rattle.dd_gen.specs.Generator.{made};
-ghost use Rattle.dd_station.specs.Counting.{counts_of};
+ghost use Rattle.dd_calls.specs.Counting.{counts_of};
 ghost use Rattle.dd_station.specs.Run.{run};
-ghost use Rattle.dd_script.specs.Script.{IsRunnable};
-ghost use Rattle.dd_script.specs.Texts.{script_line, counts_line};
+ghost use Rattle.dd_script_read.specs.Script.{IsRunnable};
+ghost use Rattle.dd_script_write.specs.Texts.{script_line, counts_line};
 ghost use Rattle.dd_prog.specs.Exchange.{side};
 ghost use Rattle.dd_prog.specs.Outcome.{Makes};
 ghost use Rattle.dd_prog.specs.Whole.{WroteMade};
 
 use crate::output::write_text;
 use crate::status::Status;
+use dd_calls::{Counts, Script};
 use dd_gen::make;
 use dd_io::{OutOfMemory, Sink};
-use dd_script::{Text, counts_text, script_text};
-use dd_station::{Counts, Script, Station, count_steps};
+use dd_script_write::{Text, counts_text, script_text};
+use dd_station::{Station, count_steps};
 use std::alloc::Global;
 
 /// The text of the script that is made of a seed.

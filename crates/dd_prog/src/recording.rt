@@ -2,31 +2,33 @@
 
 ghost use Rattle.std.specs.Prelude.{◌≡◌, ◌+◌, ◌-◌, ◌^◌, ◌≤◌, ◌<◌, length, option_map, IfOk, OnOk};
 ghost use Rattle.std.specs.List.{AllByRecursion, flat_map};
-ghost use Rattle.dd_record.specs.Writing.{magic, opening_bytes, chunk_bytes, end_bytes, record_bytes};
-ghost use Rattle.dd_station.specs.Run.{IsOfClient, next};
-ghost use Rattle.dd_script.specs.Script.{IsRunnable};
+ghost use Rattle.dd_record.specs.Writing.{magic, opening_bytes, chunk_bytes, end_bytes};
+ghost use Rattle.dd_calls.specs.Calls.{IsOfClient};
+ghost use Rattle.dd_station.specs.Run.{next};
+ghost use Rattle.dd_trace.specs.Trace.{moment_of, moments};
+ghost use Rattle.dd_script_read.specs.Script.{IsRunnable};
 ghost use Rattle.dd_prog.specs.Commands.{record_work};
 ghost use Rattle.dd_prog.specs.Exchange.{side, IfTold};
 ghost use Rattle.dd_prog.specs.Leaving.{shown_bytes, left_by, bytes_left};
-ghost use Rattle.dd_prog.specs.Outcome.{Writes, Reads, FitsRead, Ends, Fits, status_of_input};
-ghost use Rattle.dd_prog.specs.Recording.{chunk_left, recorded, record_of};
+ghost use Rattle.dd_prog.specs.Outcome.{WritesText, ReadsInput, FitsRead, Ends, FitsStatus, status_of_input};
+ghost use Rattle.dd_prog.specs.Recording.{chunk_at, recorded, record_told, record_of};
 
 use crate::command::Command;
 use crate::fault::{InputFault, RunFault};
 use crate::reading::read_script;
 use crate::replay::{status_of_input, status_of_run};
 use crate::status::Status;
+use dd_calls::{Answer, Script, Step};
 use dd_dup::Dup;
 use dd_io::{Sink, Source};
-use dd_log::Answer;
 use dd_modes::Mode;
 use dd_record::{write_end, write_frame, write_magic, write_opening};
-use dd_station::{Script, Station, Step};
+use dd_station::Station;
 use std::alloc::Global;
 
 /// Writes what a record begins with.
 fn begin<K: Sink>(sink: &mut K) -> Result<(), RunFault>
-    ensures wrote { Writes (side K.held K.faults sink.old sink.new) magic result }
+    ensures wrote { WritesText (side K.held K.faults sink.old sink.new) magic result }
     ensures later { K.faults sink.old ≤ K.faults sink.new }
 {
     write_magic(sink)?;
@@ -35,7 +37,7 @@ fn begin<K: Sink>(sink: &mut K) -> Result<(), RunFault>
 
 /// Writes a record's end.
 fn finish<K: Sink>(sink: &mut K) -> Result<(), RunFault>
-    ensures wrote { Writes (side K.held K.faults sink.old sink.new) end_bytes result }
+    ensures wrote { WritesText (side K.held K.faults sink.old sink.new) end_bytes result }
     ensures later { K.faults sink.old ≤ K.faults sink.new }
 {
     write_end(sink)?;
@@ -44,7 +46,7 @@ fn finish<K: Sink>(sink: &mut K) -> Result<(), RunFault>
 
 /// Writes the mode of an opening.
 fn write_mode<K: Sink>(mode: Mode, sink: &mut K) -> Result<(), RunFault>
-    ensures wrote { Writes (side K.held K.faults sink.old sink.new) (opening_bytes mode) result }
+    ensures wrote { WritesText (side K.held K.faults sink.old sink.new) (opening_bytes mode) result }
     ensures later { K.faults sink.old ≤ K.faults sink.new }
 {
     write_opening(sink, mode)?;
@@ -53,7 +55,7 @@ fn write_mode<K: Sink>(mode: Mode, sink: &mut K) -> Result<(), RunFault>
 
 /// Writes the frame that is held, where there is one.
 fn write_held<K: Sink>(dup: Option<&Dup>, sink: &mut K) -> Result<(), RunFault>
-    ensures wrote { Writes (side K.held K.faults sink.old sink.new)
+    ensures wrote { WritesText (side K.held K.faults sink.old sink.new)
         (shown_bytes (option_map (λ d. d.now) dup.entry)) result }
     ensures later { K.faults sink.old ≤ K.faults sink.new }
 {
@@ -72,7 +74,7 @@ fn leave<K: Sink>(
     dup: Option<&Dup>,
     sink: &mut K,
 ) -> Result<(), RunFault>
-    ensures wrote { Writes (side K.held K.faults sink.old sink.new)
+    ensures wrote { WritesText (side K.held K.faults sink.old sink.new)
         (left_by answer.now mode (option_map (λ d. d.now) dup.entry)) result }
     ensures later { K.faults sink.old ≤ K.faults sink.new }
 {
@@ -92,8 +94,8 @@ fn record_step<K: Sink>(
 ) -> Result<(), RunFault>
     requires client { IsOfClient (length station.old.clients) step.now }
     requires count { station.old.steps < 2 ^ 32 - 1 }
-    ensures wrote { Writes (side K.held K.faults sink.old sink.new)
-        (bytes_left (chunk_left client station.old step.now)) result }
+    ensures wrote { WritesText (side K.held K.faults sink.old sink.new)
+        (bytes_left (chunk_at client (moment_of station.old step.now))) result }
     ensures state { OnOk result (station.new ≡ (next station.old step.now).1) }
     ensures later { K.faults sink.old ≤ K.faults sink.new }
 {
@@ -116,8 +118,8 @@ fn record_steps<K: Sink>(
 ) -> Result<(), RunFault>
     requires clients { AllByRecursion (IsOfClient (length station.old.clients)) steps.now }
     requires count { station.old.steps + length steps.now < 2 ^ 32 - 1 }
-    ensures wrote { Writes (side K.held K.faults sink.old sink.new)
-        (flat_map chunk_bytes (recorded client station.old steps.now)) result }
+    ensures wrote { WritesText (side K.held K.faults sink.old sink.new)
+        (flat_map chunk_bytes (recorded client (moments station.old steps.now))) result }
     ensures later { K.faults sink.old ≤ K.faults sink.new }
 {
     for step in steps {
@@ -136,8 +138,8 @@ fn record_all<K: Sink>(
 ) -> Result<(), RunFault>
     requires clients { AllByRecursion (IsOfClient (length station.old.clients)) steps.now }
     requires count { station.old.steps + length steps.now < 2 ^ 32 - 1 }
-    ensures wrote { Writes (side K.held K.faults sink.old sink.new)
-        (record_bytes (recorded client station.old steps.now)) result }
+    ensures wrote { WritesText (side K.held K.faults sink.old sink.new)
+        (record_told client (moments station.old steps.now)) result }
     ensures later { K.faults sink.old ≤ K.faults sink.new }
 {
     begin(sink)?;
@@ -146,6 +148,7 @@ fn record_all<K: Sink>(
 }
 
 /// Runs a script, and writes the record of one of its clients.
+#[tactic(auto, unfolding(dd_trace::specs::Trace::trace))]
 fn record_script<K: Sink>(
     alloc: Global,
     script: Script,
@@ -154,7 +157,7 @@ fn record_script<K: Sink>(
 ) -> Result<(), RunFault>
     requires whole { IsRunnable script }
     requires count { length script.steps < 2 ^ 32 - 1 }
-    ensures wrote { Writes (side K.held K.faults sink.old sink.new) (record_of script client) result }
+    ensures wrote { WritesText (side K.held K.faults sink.old sink.new) (record_of script client) result }
     ensures later { K.faults sink.old ≤ K.faults sink.new }
 {
     let Script {
@@ -172,7 +175,7 @@ fn read_script_of<S: Source>(
     source: &mut S,
     client: u32,
 ) -> Result<Script, InputFault>
-    ensures reads { Reads (record_work client) (side S.left S.faults source.old source.new) result }
+    ensures reads { ReadsInput (record_work client) (side S.left S.faults source.old source.new) result }
     ensures whole { IfOk result (λ s. IsRunnable s) }
     ensures count { IfOk result (λ s. length s.steps < 2 ^ 32 - 1) }
     ensures told { IfTold (side S.left S.faults source.old source.new)
@@ -197,7 +200,7 @@ pub(crate) fn record<S: Source, K: Sink>(
       source = side S.left S.faults source.old source.new;
       sink = side K.held K.faults sink.old sink.new;
     }) result }
-    ensures told { IfTold (side S.left S.faults source.old source.new) (Fits (record_work client) result) }
+    ensures told { IfTold (side S.left S.faults source.old source.new) (FitsStatus (record_work client) result) }
     ensures later_read { S.faults source.old ≤ S.faults source.new }
     ensures later_write { K.faults sink.old ≤ K.faults sink.new }
 {

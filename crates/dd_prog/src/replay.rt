@@ -2,22 +2,24 @@
 
 ghost use Rattle.std.specs.Prelude.{◌≡◌, ◌+◌, ◌-◌, ◌^◌, ◌≤◌, ◌<◌, length, IfOk, OnOk};
 ghost use Rattle.std.specs.List.{AllByRecursion};
-ghost use Rattle.dd_station.specs.Run.{IsOfClient, next, answers, run};
-ghost use Rattle.dd_script.specs.Script.{IsRunnable};
-ghost use Rattle.dd_script.specs.Texts.{line, text};
+ghost use Rattle.dd_calls.specs.Calls.{IsOfClient};
+ghost use Rattle.dd_station.specs.Run.{next, answers, run};
+ghost use Rattle.dd_script_read.specs.Script.{IsRunnable};
+ghost use Rattle.dd_script_write.specs.Texts.{line, text};
 ghost use Rattle.dd_prog.specs.Commands.{replay_work};
 ghost use Rattle.dd_prog.specs.Exchange.{side, IfTold};
 ghost use Rattle.dd_prog.specs.Keeping.{Adds};
-ghost use Rattle.dd_prog.specs.Outcome.{Writes, Ends, Fits, status_of_run, status_of_input};
+ghost use Rattle.dd_prog.specs.Outcome.{WritesText, Ends, FitsStatus, status_of_run, status_of_input};
 
 use crate::command::Command;
 use crate::fault::{InputFault, RunFault};
 use crate::keeping::{put_line, stop, write_kept};
 use crate::reading::read_script;
 use crate::status::Status;
+use dd_calls::{Script, Step};
 use dd_io::{OutOfMemory, Sink, Source};
-use dd_script::{Text, answer_text};
-use dd_station::{Script, Station, Step};
+use dd_script_write::{Text, answer_text};
+use dd_station::Station;
 use std::alloc::Global;
 
 /// Does one step, and makes the line of its answer.
@@ -61,7 +63,7 @@ fn play_all<K: Sink>(
 ) -> Result<(), RunFault>
     requires clients { AllByRecursion (IsOfClient (length station.old.clients)) steps.now }
     requires count { station.old.steps + length steps.now < 2 ^ 32 - 1 }
-    ensures wrote { Writes (side K.held K.faults sink.old sink.new) (text (answers station.old steps.now)) result }
+    ensures wrote { WritesText (side K.held K.faults sink.old sink.new) (text (answers station.old steps.now)) result }
     ensures later { K.faults sink.old ≤ K.faults sink.new }
 {
     let mut kept = Vec::new(alloc);
@@ -76,7 +78,7 @@ fn play_all<K: Sink>(
 fn run_script<K: Sink>(alloc: Global, script: Script, sink: &mut K) -> Result<(), RunFault>
     requires whole { IsRunnable script }
     requires count { length script.steps < 2 ^ 32 - 1 }
-    ensures wrote { Writes (side K.held K.faults sink.old sink.new) (text (run script)) result }
+    ensures wrote { WritesText (side K.held K.faults sink.old sink.new) (text (run script)) result }
     ensures later { K.faults sink.old ≤ K.faults sink.new }
 {
     let Script {
@@ -117,7 +119,7 @@ pub(crate) fn replay<S: Source, K: Sink>(alloc: Global, source: &mut S, sink: &m
       source = side S.left S.faults source.old source.new;
       sink = side K.held K.faults sink.old sink.new;
     }) result }
-    ensures told { IfTold (side S.left S.faults source.old source.new) (Fits replay_work result) }
+    ensures told { IfTold (side S.left S.faults source.old source.new) (FitsStatus replay_work result) }
     ensures later_read { S.faults source.old ≤ S.faults source.new }
     ensures later_write { K.faults sink.old ≤ K.faults sink.new }
 {

@@ -6,7 +6,7 @@ ghost use Rattle.dd_io.specs.Transfer.{GivesPiece};
 ghost use Rattle.dd_view.specs.Player.{new_reader, bytes_come, reader_of, finish_answer};
 ghost use Rattle.dd_prog.specs.Commands.{view_work};
 ghost use Rattle.dd_prog.specs.Exchange.{side, IfTold};
-ghost use Rattle.dd_prog.specs.Outcome.{Ends, Fits, status_of_input};
+ghost use Rattle.dd_prog.specs.Outcome.{Ends, FitsStatus, status_of_input};
 ghost use Rattle.dd_prog.specs.Viewing.{Fed, FedAll, Pictures, Pictured, Texts};
 
 use crate::command::Command;
@@ -140,7 +140,7 @@ pub(crate) fn view<S: Source, K: Sink>(
       source = side S.left S.faults source.old source.new;
       sink = side K.held K.faults sink.old sink.new;
     }) result }
-    ensures told { IfTold (side S.left S.faults source.old source.new) (Fits (view_work frame) result) }
+    ensures told { IfTold (side S.left S.faults source.old source.new) (FitsStatus (view_work frame) result) }
     ensures later_read { S.faults source.old ≤ S.faults source.new }
     ensures later_write { K.faults sink.old ≤ K.faults sink.new }
 {

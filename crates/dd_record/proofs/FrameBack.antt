@@ -11,7 +11,7 @@ use Rattle.dd_modes.specs.declared.modes.Mode.{Mode}
 use Rattle.dd_pointer.specs.declared.kind.TheConstants.{MAX_BYTES}
 use Rattle.dd_pointer.specs.Shape.{PointerShape, number, kind_of}
 use Rattle.dd_pointer.proofs.Sizes.{has_size, required_few, required_some, height_few, number_small, kind_of-number, shape_is_read}
-use Rattle.dd_log.specs.declared.answers.FrameInfo.{FrameInfo}
+use Rattle.dd_calls.specs.declared.answers.FrameInfo.{FrameInfo}
 use Rattle.dd_meta.proofs.Pieces.{length-pieces}
 use Rattle.dd_record.specs.declared.chunk.Chunk.TheVariants.{Frame}
 use Rattle.dd_record.specs.declared.chunk.FrameChunk.{FrameChunk}

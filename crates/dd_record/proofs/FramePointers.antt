@@ -8,7 +8,7 @@ use Rattle.std.proofs.lemmas.Bool.{or_parts, or_from}
 use Rattle.std.proofs.lemmas.Int.{fits_signed_from_abs}
 use Rattle.dd_modes.specs.declared.modes.Mode.{Mode}
 use Rattle.dd_pointer.specs.Shape.{PointerShape}
-use Rattle.dd_log.specs.declared.answers.Pointer.{Pointer}
+use Rattle.dd_log.specs.declared.pointer.Pointer.{Pointer}
 use Rattle.dd_log.specs.declared.desk.Desk.{Desk}
 use Rattle.dd_log.specs.declared.events.Entry.{Entry}
 use Rattle.dd_log.specs.Desk.{first_desk, desk_after, desk_of}

@@ -8,7 +8,7 @@ use Rattle.dd_pointer.specs.declared.kind.TheConstants.{MAX_BYTES}
 use Rattle.dd_meta.specs.declared.buffer.TheConstants.{MAX_METADATA}
 use Rattle.dd_acc.specs.declared.interval.TheConstants.{MAX_MOVES}
 use Rattle.dd_coal.specs.declared.coalescing.TheConstants.{MAX_RECTS}
-use Rattle.dd_log.specs.declared.answers.FrameInfo.{FrameInfo}
+use Rattle.dd_calls.specs.declared.answers.FrameInfo.{FrameInfo}
 use Rattle.dd_record.specs.Reading.{Good, ◌>>=◌, number}
 use Rattle.dd_record.specs.Grammar.{zero_where, is_flag, last_present_of, last_mouse_of, accumulated_of, coalesced_of, protected_of, pointer_of, meta_of, shape_size_of, move_count_of, rect_count_of, info_of, head_of}
 use Rattle.dd_record.specs.Writing.{head_bytes, KeepsInfo}

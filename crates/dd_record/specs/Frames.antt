@@ -6,7 +6,7 @@ use Rattle.dd_geom.specs.declared.rect.Rect.{Rect}
 use Rattle.dd_geom.specs.Rect.{IsSize, place}
 use Rattle.dd_geom.specs.Grid.{Grid, grid}
 use Rattle.dd_grid.specs.Drawing.{colour_at}
-use Rattle.dd_log.specs.declared.answers.Pointer.{Pointer}
+use Rattle.dd_log.specs.declared.pointer.Pointer.{Pointer}
 use Rattle.dd_log.specs.declared.events.Entry.{Entry}
 use Rattle.dd_log.specs.declared.events.Event.{Event}
 use Rattle.dd_log.specs.declared.events.TheConstants.{MAX_CAPACITY}

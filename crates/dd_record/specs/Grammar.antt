@@ -14,8 +14,8 @@ use Rattle.dd_pointer.specs.declared.kind.Kind.{Kind}
 use Rattle.dd_pointer.specs.declared.kind.TheConstants.{MAX_BYTES}
 use Rattle.dd_pointer.specs.declared.shape.ShapeFault.{ShapeFault}
 use Rattle.dd_pointer.specs.Shape.{PointerShape, kind_of, is_size, required, reading}
-use Rattle.dd_log.specs.declared.answers.FrameInfo.{FrameInfo}
-use Rattle.dd_log.specs.declared.answers.Pointer.{Pointer}
+use Rattle.dd_calls.specs.declared.answers.FrameInfo.{FrameInfo}
+use Rattle.dd_log.specs.declared.pointer.Pointer.{Pointer}
 use Rattle.dd_log.specs.declared.events.TheConstants.{MAX_CAPACITY}
 use Rattle.dd_meta.specs.declared.buffer.TheConstants.{MAX_METADATA}
 use Rattle.dd_acc.specs.declared.interval.TheConstants.{MAX_MOVES}

@@ -16,8 +16,8 @@ use crate::layout::{END_BYTES, FRAME_HEAD_BYTES, OPENING_BYTES, PIXEL_BYTES, SHA
 use crate::pixels::{pixels_good, pixels_of};
 use crate::rectangles::{dirt_of, moves_of, pixel_count};
 use crate::shapes::new_shape_of;
+use dd_calls::FrameInfo;
 use dd_geom::{MOVE_BYTES, Moves, Rects};
-use dd_log::FrameInfo;
 use dd_modes::Mode;
 use dd_ops::Colours;
 use dd_pointer::Shape;

@@ -11,8 +11,6 @@ mod pages;
 mod pixels;
 mod rectangles;
 mod shapes;
-#[cfg(test)]
-mod tests;
 mod writing;
 
 pub use chunk::{Chunk, FrameChunk, Parsed, parse_chunk, parse_chunk_from};

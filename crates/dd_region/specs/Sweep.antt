@@ -5,6 +5,7 @@ use Rattle.dd_geom.specs.Rect.{between, AreInside}
 use Rattle.dd_region.specs.declared.sweep.Inside.{Inside}
 use Rattle.dd_region.specs.declared.sweep.Inside.TheVariants.{Nothing, Whole, Source}
 use Rattle.dd_region.specs.declared.sweep.Patch.{Patch}
+use Rattle.dd_region.specs.declared.sweep.Step.{Step}
 use Rattle.dd_region.specs.declared.rows.Rows.{Rows}
 use Rattle.dd_region.specs.Rows.{row_at, depth, AreRows, ArePassed, has_point, HavePoints}
 
@@ -35,6 +36,13 @@ abbrev pub IsSourcePassed : Inside → Sides → Rows → ℕ → ℕ → Type 0
 IsSourcePassed Nothing s old n y = ⊤
 IsSourcePassed Whole s old n y = ⊤
 IsSourcePassed (Source column row) s old n y = ArePassed old n (y + row - s.top)
+
+-- a row that was written for row y serves for some rows from there on, all between the sides, and no band that was
+-- passed has the source of row y
+pub record IsStep (i : Inside) (s : Sides) (old : Rows) (y : ℕ) (step : Step) : Type 0 where
+  pub below : y < step.bottom
+  pub within : step.bottom ≤ s.bottom
+  pub passed : IsSourcePassed i s old step.band y
 
 -- rows that are as before, and then as those of other rows, down to row y - 1
 pub record HasRowsOf (other before : Rows) (y : ℕ) (now : Rows) : Type 0 where

@@ -114,7 +114,6 @@ impl Area for Bands {
         })
     }
 
-    /// A rectangle that is there already takes no memory.
     fn add(&mut self, r: Rect) -> Result<(), AllocError> {
         let sides = sides_of(r);
         if self.rows.has_all(sides) {

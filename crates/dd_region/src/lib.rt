@@ -7,8 +7,6 @@ mod listing;
 mod rows;
 mod run;
 mod sweep;
-#[cfg(test)]
-mod tests;
 mod tiling;
 
 pub use bands::Bands;

@@ -1,10 +1,9 @@
 //! Rows written anew: as they were outside a rectangle, and otherwise inside it.
 
 ghost use Rattle.std.specs.Prelude.{◌≡◌, ℕ, ◌+◌, ◌-◌, ◌^◌, ◌<◌, ◌≤◌, ◌||◌, ◌&&◌, nat_le, nat_lt, false, OnOk, IfOk, if◌then◌else◌};
-ghost use Rattle.dd_geom.specs.Rect.{AreInside};
 ghost use Rattle.dd_region.specs.Runs.{in_runs, IsRow, BeginBy};
-ghost use Rattle.dd_region.specs.Rows.{row_at, depth, AreRows, ArePassed, has_point, AreWithin, HavePoints};
-ghost use Rattle.dd_region.specs.Sweep.{inside_has, with_patch, IsPatch, IsSourcePassed, HasRowsOf, HasPatch};
+ghost use Rattle.dd_region.specs.Rows.{depth, AreRows, ArePassed, has_point, AreWithin};
+ghost use Rattle.dd_region.specs.Sweep.{inside_has, IsPatch, IsSourcePassed, IsStep, HasRowsOf, HasPatch};
 
 use crate::carry::carry;
 use crate::rows::Rows;
@@ -63,9 +62,7 @@ fn push_source(
         && has_point old.now (x + column - sides.left) (z + source - sides.top)))) }
     ensures row { OnOk result (IsRow row.new.items) }
     ensures begin { OnOk result (BeginBy row.new.items sides.right) }
-    ensures below { IfOk result (λ step. y < step.bottom) }
-    ensures within { IfOk result (λ step. step.bottom ≤ sides.bottom) }
-    ensures passed { IfOk result (λ step. ArePassed old.now step.band (y + source - sides.top)) }
+    ensures step { IfOk result (IsStep (Inside.Source column source) sides old.now y) }
 {
     let line = y - sides.top + source;
     let at = old.at(line, from);
@@ -102,10 +99,7 @@ fn push_inside(
         && inside_has patch.inside patch.sides (has_point old.now) x z))) }
     ensures row { OnOk result (IsRow row.new.items) }
     ensures begin { OnOk result (BeginBy row.new.items patch.sides.right) }
-    ensures below { IfOk result (λ step. y < step.bottom) }
-    ensures within { IfOk result (λ step. step.bottom ≤ patch.sides.bottom) }
-    ensures passed { IfOk result (λ step.
-        IsSourcePassed patch.inside patch.sides old.now step.band y) }
+    ensures step { IfOk result (IsStep patch.inside patch.sides old.now y) }
 {
     let sides = patch.sides;
     let all = Step {
@@ -152,10 +146,7 @@ fn write_row(
         in_runs row.new.items x ≡ (if nat_le patch.sides.left x && nat_lt x patch.sides.right
         then inside_has patch.inside patch.sides (has_point old.now) x z else in_runs runs.now x)) }
     ensures row { OnOk result (IsRow row.new.items) }
-    ensures below { IfOk result (λ step. y < step.bottom) }
-    ensures within { IfOk result (λ step. step.bottom ≤ patch.sides.bottom) }
-    ensures passed { IfOk result (λ step.
-        IsSourcePassed patch.inside patch.sides old.now step.band y) }
+    ensures step { IfOk result (IsStep patch.inside patch.sides old.now y) }
 {
     let sides = patch.sides;
     row.clear();

@@ -1,14 +1,7 @@
-//! Scripts from JSON and as JSON, and answers and counts as lines of JSON.
+//! Scripts from JSON and as JSON, and answers and counts as lines of JSON: the calls that read,
+//! those that write, and the laws of both.
 #![tactic(auto)]
 
-mod fault;
-mod laws;
-mod reading;
-mod text;
-mod writing;
-
-pub use fault::ScriptFault;
-pub use laws::scripts_read_back;
-pub use reading::{MAX_BUFFER, one_tree, read_steps, reading_undoes_spelling};
-pub use text::Text;
-pub use writing::{answer_text, counts_text, script_text};
+pub use dd_script_laws::{reading_undoes_spelling, scripts_read_back};
+pub use dd_script_read::{MAX_BUFFER, ScriptFault, one_tree, read_steps};
+pub use dd_script_write::{Text, answer_text, counts_text, script_text};

@@ -1,14 +1,14 @@
 -- Steps counted one after another: what was counted so far, and what is left to count. No count passes its type's end.
 use Rattle.std.proofs.Common.{◌≡◌, ℕ, zero, suc, ◌+◌, ◌*◌, ◌^◌, ◌<◌, ◌≤◌, Bool, true, false, List, [], ◌∷◌, ◌++◌, length, drop, get_or, refl, sym, ap, ◌∙◌, subst, arith, append_assoc}
-use Rattle.dd_log.specs.declared.answers.Answer.{Answer}
-use Rattle.dd_log.specs.declared.answers.Answer.TheVariants as answer
+use Rattle.dd_calls.specs.declared.answers.Answer.{Answer}
+use Rattle.dd_calls.specs.declared.answers.Answer.TheVariants as answer
 use Rattle.dd_dup.specs.Reply.{IsBounded}
-use Rattle.dd_station.specs.declared.counting.Counts.{Counts}
-use Rattle.dd_station.specs.declared.steps.Step.{Step}
+use Rattle.dd_calls.specs.declared.counting.Counts.{Counts}
+use Rattle.dd_calls.specs.declared.steps.Step.{Step}
 use Rattle.dd_station.specs.Run.{State, next, answers, after}
-use Rattle.dd_station.specs.Trace.{is_frame}
-use Rattle.dd_station.specs.Counting.{is_coalesced, is_entry, is_refusal, presents_told, moves_told, rects_told, one_if, counts_of, counted, CountsFit}
-use Rattle.dd_station.proofs.Counted.{counted_more}
+use Rattle.dd_calls.specs.Parts.{is_frame}
+use Rattle.dd_calls.specs.Counting.{is_coalesced, is_entry, is_refusal, presents_counted, moves_counted, rects_counted, one_if, counts_of, counted, CountsFit}
+use Rattle.dd_calls.proofs.Counted.{counted_more}
 use Rattle.dd_station.proofs.Stepped.{stepped_next}
 
 -- ---- no count is too large
@@ -43,11 +43,11 @@ at_most_one false = omega arith
 
 -- what an answer tells of fits 32 bits
 record TellsFew (a : Answer) : Type 0 where
-  presents : presents_told a ≤ 2 ^ 32
-  moves : moves_told a ≤ 2 ^ 32
-  rects : rects_told a ≤ 2 ^ 32
+  presents : presents_counted a ≤ 2 ^ 32
+  moves : moves_counted a ≤ 2 ^ 32
+  rects : rects_counted a ≤ 2 ^ 32
 
-no_frame : (a : Answer) → presents_told a ≡ 0 → moves_told a ≡ 0 → rects_told a ≡ 0 → TellsFew a
+no_frame : (a : Answer) → presents_counted a ≡ 0 → moves_counted a ≡ 0 → rects_counted a ≡ 0 → TellsFew a
 no_frame a p m r = record { presents = omega (arith, p); moves = omega (arith, m); rects = omega (arith, r) }
 
 tells_few : (a : Answer) → IsBounded a → TellsFew a

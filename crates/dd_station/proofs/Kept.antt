@@ -9,7 +9,7 @@ use Rattle.dd_log.specs.declared.events.Entry.{Entry}
 use Rattle.dd_log.specs.declared.events.Draw.{Draw}
 use Rattle.dd_log.specs.declared.events.Event.TheVariants.{Opened, Closed}
 use Rattle.dd_log.specs.declared.events.Event.TheVariants as events
-use Rattle.dd_log.specs.declared.answers.LogRefusal.{LogRefusal}
+use Rattle.dd_log.specs.declared.refusal.LogRefusal.{LogRefusal}
 use Rattle.dd_log.specs.Desk.{is_app, finds_slot}
 use Rattle.dd_log.specs.History.{History, Begins, desk, with_entry, last_step, is_opening, opens_at}
 use Rattle.dd_table.specs.Opening.{opening}
@@ -18,13 +18,15 @@ use Rattle.dd_table.proofs.Slots.{open_drawn, open_opened, open_beside_opening, 
 use Rattle.dd_dup.specs.Stands.{Stands}
 use Rattle.dd_dup.specs.Duplicator.{Duplicator}
 use Rattle.dd_dup.proofs.Frames.{stands_later}
-use Rattle.dd_log.specs.declared.answers.DupRefusal.{DupRefusal}
-use Rattle.dd_dup.specs.declared.calls.DupCall.{DupCall}
-use Rattle.dd_dup.specs.declared.calls.DupCall.TheVariants as asked
+use Rattle.dd_calls.specs.declared.answers.DupRefusal.{DupRefusal}
+use Rattle.dd_calls.specs.declared.dup_call.DupCall.{DupCall}
+use Rattle.dd_calls.specs.declared.dup_call.DupCall.TheVariants as asked
 use Rattle.dd_dup.specs.declared.frame.Frame.{Frame}
 use Rattle.dd_dup.specs.Reply.{Memory, reply, is_lost, lost_memory, without_frame, memory_after, acquire_reply}
-use Rattle.dd_station.specs.Run.{draw_history, slot_of, client_reply}
-use Rattle.dd_station.specs.Station.{memory, memories, MayStand, HasSlot, Has, IsKept}
+use Rattle.dd_station.specs.Run.{draw_history, client_reply}
+use Rattle.dd_dup.specs.Reply.{slot_of}
+use Rattle.dd_dup.specs.Stands.{memory, MayStand}
+use Rattle.dd_station.specs.Station.{memories, HasSlot, Has, IsKept}
 
 -- a list begins with what it was before one entry more
 pub begins-with_entry : (h : History) (e : Entry) → Begins h (with_entry h e)

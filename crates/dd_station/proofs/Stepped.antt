@@ -1,13 +1,14 @@
 -- A step keeps the clients, and is counted.
 use Rattle.std.proofs.Common.{◌≡◌, ℕ, ◌+◌, Result, Ok, Err, refl}
-use Rattle.dd_log.specs.declared.answers.OpenRefusal.{OpenRefusal}
-use Rattle.dd_log.specs.declared.answers.CloseRefusal.{CloseRefusal}
+use Rattle.dd_calls.specs.declared.answers.OpenRefusal.{OpenRefusal}
+use Rattle.dd_calls.specs.declared.answers.CloseRefusal.{CloseRefusal}
 use Rattle.dd_table.specs.Opening.{opening, closing}
-use Rattle.dd_station.specs.declared.steps.Step.{Step}
-use Rattle.dd_station.specs.declared.steps.Step.TheVariants as steps
-use Rattle.dd_station.specs.declared.steps.ClientCall.{ClientCall}
-use Rattle.dd_station.specs.declared.steps.ClientCall.TheVariants as calls
-use Rattle.dd_station.specs.Run.{State, next, call_outcome, opening_outcome, closing_outcome, app_of, memory_of, slot_of}
+use Rattle.dd_calls.specs.declared.steps.Step.{Step}
+use Rattle.dd_calls.specs.declared.steps.Step.TheVariants as steps
+use Rattle.dd_calls.specs.declared.steps.ClientCall.{ClientCall}
+use Rattle.dd_calls.specs.declared.steps.ClientCall.TheVariants as calls
+use Rattle.dd_station.specs.Run.{State, next, call_outcome, opening_outcome, closing_outcome, app_of, memory_of}
+use Rattle.dd_dup.specs.Reply.{slot_of}
 
 stepped_opening : (r : Result ℕ OpenRefusal) (s : State) (k : ℕ)
     → ((opening_outcome r s k).1.clients ≡ s.clients) × ((opening_outcome r s k).1.steps ≡ s.steps + 1)

@@ -1,10 +1,3 @@
 pub mod Run
 pub mod Station
 pub mod Opening
-pub mod Independence
-pub mod Veil
-pub mod Trace
-pub mod Causes
-pub mod Entered
-pub mod Headline
-pub mod Counting

@@ -5,22 +5,21 @@ use Rattle.dd_log.specs.declared.events.Entry.{Entry}
 use Rattle.dd_log.specs.declared.events.Event.{Event}
 use Rattle.dd_log.specs.declared.events.Event.TheVariants as events
 use Rattle.dd_log.specs.declared.events.Draw as draws
-use Rattle.dd_log.specs.declared.answers.Answer.{Answer}
-use Rattle.dd_log.specs.declared.answers.Answer.TheVariants.{Entered, NotDrawn, Opened, NotOpened, Closed, NotClosed, NoDuplicator}
-use Rattle.dd_log.specs.declared.answers.LogRefusal.{LogRefusal}
-use Rattle.dd_log.specs.declared.answers.OpenRefusal.{OpenRefusal}
-use Rattle.dd_log.specs.declared.answers.CloseRefusal.{CloseRefusal}
+use Rattle.dd_calls.specs.declared.answers.Answer.{Answer}
+use Rattle.dd_calls.specs.declared.answers.Answer.TheVariants.{Entered, NotDrawn, Opened, NotOpened, Closed, NotClosed, NoDuplicator}
+use Rattle.dd_log.specs.declared.refusal.LogRefusal.{LogRefusal}
+use Rattle.dd_calls.specs.declared.answers.OpenRefusal.{OpenRefusal}
+use Rattle.dd_calls.specs.declared.answers.CloseRefusal.{CloseRefusal}
 use Rattle.dd_log.specs.History.{History, begun, with_entry, allowed}
-use Rattle.dd_log.specs.Slots.{slot_at}
 use Rattle.dd_table.specs.Opening.{opening, closing}
-use Rattle.dd_dup.specs.declared.calls.DupCall.{DupCall}
-use Rattle.dd_dup.specs.declared.calls.DupCall.TheVariants as asked
-use Rattle.dd_dup.specs.Reply.{Memory, fresh_memory, reply, call_takes_memory}
-use Rattle.dd_station.specs.declared.steps.Script.{Script}
-use Rattle.dd_station.specs.declared.steps.Step.{Step}
-use Rattle.dd_station.specs.declared.steps.Step.TheVariants as steps
-use Rattle.dd_station.specs.declared.steps.ClientCall.{ClientCall}
-use Rattle.dd_station.specs.declared.steps.ClientCall.TheVariants as calls
+use Rattle.dd_calls.specs.declared.dup_call.DupCall.{DupCall}
+use Rattle.dd_dup.specs.Reply.{Memory, fresh_memory, slot_of, reply, call_takes_memory}
+use Rattle.dd_calls.specs.Calls.{asked}
+use Rattle.dd_calls.specs.declared.steps.Script.{Script}
+use Rattle.dd_calls.specs.declared.steps.Step.{Step}
+use Rattle.dd_calls.specs.declared.steps.Step.TheVariants as steps
+use Rattle.dd_calls.specs.declared.steps.ClientCall.{ClientCall}
+use Rattle.dd_calls.specs.declared.steps.ClientCall.TheVariants as calls
 
 -- the list so far, the clients' applications, each client's memory where it has a duplicator, and the steps so far
 pub record State : Type 0 where
@@ -32,11 +31,6 @@ pub record State : Type 0 where
 abbrev pub start : Spec → List ℕ → State
 start spec clients =
     record { history = begun spec; clients = clients; memories = replicate (length clients) None; steps = 0 }
-
--- a call is of one of n clients, numbered from 1
-abbrev pub IsOfClient : ℕ → Step → Type 0
-IsOfClient n (steps.Draw d) = Unit {0}
-IsOfClient n (steps.Call k call) = (1 ≤ k) × (k ≤ n)
 
 -- one step more, with this list
 abbrev pub one_step_on : State → History → State
@@ -83,11 +77,6 @@ opening_outcome (Ok slot) s k = (
 )
 opening_outcome (Err cause) s k = (NotOpened cause, one_step_on s s.history)
 
--- the slot of a client's duplicator, where it has one: that of its opening
-abbrev pub slot_of : Option Memory → History → Option ℕ
-slot_of None h = None
-slot_of (Some m) h = slot_at h m.opened
-
 -- a closing is the next entry, and the client has no memory then; or it is refused
 abbrev pub closing_outcome : Result ℕ CloseRefusal → State → ℕ → Answer × State
 closing_outcome (Ok slot) s k = (
@@ -107,17 +96,14 @@ reply_outcome s k r = (r.0, with_memory (one_step_on s s.history) k r.1)
 abbrev pub asking_outcome : State → ℕ → DupCall → Answer × State
 asking_outcome s k call = reply_outcome s k (client_reply call (memory_of s k) s.history)
 
--- a client opens a duplicator, closes its own, or asks it something
+-- a client asks its duplicator something, closes it, or opens one
+abbrev pub client_outcome : State → ℕ → Option DupCall → ClientCall → Answer × State
+client_outcome s k (Some ask) call = asking_outcome s k ask
+client_outcome s k None calls.Close = closing_outcome (closing s.history (slot_of (memory_of s k) s.history)) s k
+client_outcome s k None call = opening_outcome (opening s.history (app_of s k)) s k
+
 abbrev pub call_outcome : State → ℕ → ClientCall → Answer × State
-call_outcome s k calls.Duplicate = opening_outcome (opening s.history (app_of s k)) s k
-call_outcome s k calls.Close = closing_outcome (closing s.history (slot_of (memory_of s k) s.history)) s k
-call_outcome s k (calls.Acquire timeout) = asking_outcome s k asked.Acquire
-call_outcome s k calls.Release = asking_outcome s k asked.Release
-call_outcome s k (calls.Moves buffer) = asking_outcome s k (asked.Moves buffer)
-call_outcome s k (calls.Dirty buffer) = asking_outcome s k (asked.Dirty buffer)
-call_outcome s k (calls.Shape buffer) = asking_outcome s k (asked.Shape buffer)
-call_outcome s k calls.Surface = asking_outcome s k asked.Surface
-call_outcome s k calls.Desc = asking_outcome s k asked.Desc
+call_outcome s k call = client_outcome s k (asked call) call
 
 -- the answer to the next step, and the state then
 unfoldable pub next : State → Step → Answer × State
@@ -133,16 +119,13 @@ abbrev pub asks_memory : State → ℕ → DupCall → Bool
 asks_memory s k call = asking_takes_memory call (memory_of s k) s.history
 
 -- or for what a client calls: an opening that is granted takes some, a closing none
+abbrev pub takes_memory_for : State → ℕ → Option DupCall → ClientCall → Bool
+takes_memory_for s k (Some ask) call = asks_memory s k ask
+takes_memory_for s k None calls.Close = false
+takes_memory_for s k None call = is_ok (opening s.history (app_of s k))
+
 abbrev pub client_takes_memory : State → ℕ → ClientCall → Bool
-client_takes_memory s k calls.Duplicate = is_ok (opening s.history (app_of s k))
-client_takes_memory s k calls.Close = false
-client_takes_memory s k (calls.Acquire timeout) = asks_memory s k asked.Acquire
-client_takes_memory s k calls.Release = asks_memory s k asked.Release
-client_takes_memory s k (calls.Moves buffer) = asks_memory s k (asked.Moves buffer)
-client_takes_memory s k (calls.Dirty buffer) = asks_memory s k (asked.Dirty buffer)
-client_takes_memory s k (calls.Shape buffer) = asks_memory s k (asked.Shape buffer)
-client_takes_memory s k calls.Surface = asks_memory s k asked.Surface
-client_takes_memory s k calls.Desc = asks_memory s k asked.Desc
+client_takes_memory s k call = takes_memory_for s k (asked call) call
 
 -- whether memory is taken for a step: for each drawing, for an opening and a frame that are granted, for rows and for
 -- each buffer; never for a closing or a release

@@ -1,15 +1,12 @@
 -- A station's value and what it keeps.
-use Rattle.std.specs.Prelude.{◌≡◌, ◌≢◌, ℕ, ◌≤◌, true, List, length, map, Option, Some, None, is_some, option_map, slice_index, slice_index_or}
+use Rattle.std.specs.Prelude.{◌≡◌, ◌≢◌, ℕ, ◌≤◌, true, List, length, map, Option, Some, None, is_some, slice_index, slice_index_or}
 use Rattle.dd_log.specs.History.{History, last_step}
 use Rattle.dd_table.specs.Slots.{IsOpenFor}
 use Rattle.dd_dup.specs.Reply.{Memory}
 use Rattle.dd_dup.specs.Duplicator.{Duplicator}
-use Rattle.dd_dup.specs.Stands.{Stands}
-use Rattle.dd_station.specs.declared.steps.TheConstants.{MAX_CLIENTS}
+use Rattle.dd_dup.specs.Stands.{memory, MayStand}
+use Rattle.dd_calls.specs.declared.steps.TheConstants.{MAX_CLIENTS}
 use Rattle.dd_station.specs.Run.{State}
-
-abbrev pub memory : Option Duplicator → Option Memory
-memory dup = option_map (λ d. d.memory) dup
 
 abbrev pub memories : List (Option Duplicator) → List (Option Memory)
 memories dups = map memory dups
@@ -17,12 +14,7 @@ memories dups = map memory dups
 abbrev pub state : History → List ℕ → List (Option Duplicator) → ℕ → State
 state h clients dups steps = record { history = h; clients = clients; memories = memories dups; steps = steps }
 
--- a client's duplicator, where it has one, stands on the list
-abbrev pub MayStand : Option Duplicator → History → Type 0
-MayStand None h = Unit {0}
-MayStand (Some d) h = Stands d h
-
--- and the slot of its opening is the one that is open for the client's application
+-- the slot of its opening is the one that is open for the client's application
 abbrev pub HasSlot : Option Duplicator → History → ℕ → Type 0
 HasSlot None h app = Unit {0}
 HasSlot (Some d) h app = IsOpenFor h d.memory.opened app

@@ -3,10 +3,11 @@
 ghost use Rattle.std.specs.Prelude.{◌≡◌, IsTrue, IfOk, OnOk, OnErr};
 ghost use Rattle.dd_dup.specs.Reply.{IsBounded};
 ghost use Rattle.dd_station.specs.Run.{client_reply, asking_takes_memory};
-ghost use Rattle.dd_station.specs.Station.{memory, MayStand};
+ghost use Rattle.dd_dup.specs.Stands.{memory, MayStand};
 
-use dd_dup::{Dup, DupCall};
-use dd_log::{Answer, Log};
+use dd_calls::{Answer, DupCall};
+use dd_dup::Dup;
+use dd_log::Log;
 use std::alloc::AllocError;
 
 /// The answer to a call of a client, which may have no duplicator.

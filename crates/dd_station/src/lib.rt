@@ -4,15 +4,9 @@
 mod calls;
 mod closing;
 mod counting;
-mod laws;
 mod opening;
 mod station;
-mod steps;
-#[cfg(test)]
-mod tests;
 
-pub use counting::{Counts, count_steps};
-pub use dd_log::Answer;
-pub use laws::{clients_are_independent, headline, hidden_content};
+pub use counting::count_steps;
+pub use dd_calls::{Answer, ClientCall, Counts, MAX_CLIENTS, Script, Step, Steps};
 pub use station::Station;
-pub use steps::{ClientCall, MAX_CLIENTS, Script, Step, Steps};

@@ -6,8 +6,9 @@ ghost use Rattle.dd_log.specs.declared.events.TheConstants.{MAX_ACTORS};
 ghost use Rattle.dd_table.specs.Opening.{opening as opening_of};
 ghost use Rattle.dd_station.specs.Opening.{IsAttempt};
 
+use dd_calls::OpenRefusal;
 use dd_dup::Dup;
-use dd_log::{Entry, Event, Log, OpenRefusal};
+use dd_log::{Entry, Event, Log};
 use dd_table::may_open;
 use std::alloc::{AllocError, Global};
 

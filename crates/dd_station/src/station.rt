@@ -5,15 +5,15 @@ ghost use Rattle.dd_log.specs.Desk.{finds_slot};
 ghost use Rattle.dd_log.specs.History.{allowed, desk, last_step};
 ghost use Rattle.dd_log.specs.declared.events.TheConstants.{MAX_CAPACITY};
 ghost use Rattle.dd_dup.specs.Reply.{IsBounded};
-ghost use Rattle.dd_station.specs.declared.steps.TheConstants.{MAX_CLIENTS};
+ghost use Rattle.dd_calls.specs.declared.steps.TheConstants.{MAX_CLIENTS};
 ghost use Rattle.dd_station.specs.Run.{draw_answer, draw_history};
 
 use crate::calls::answer_of;
 use crate::closing::close;
 use crate::opening::{Attempt, open};
-use crate::steps::{ClientCall, MAX_CLIENTS, Step};
-use dd_dup::{Dup, DupCall};
-use dd_log::{Answer, Draw, Entry, Event, Log, Spec};
+use dd_calls::{Answer, ClientCall, DupCall, MAX_CLIENTS, Step};
+use dd_dup::Dup;
+use dd_log::{Draw, Entry, Event, Log, Spec};
 use dd_table::may_close;
 use std::alloc::{AllocError, Global};
 use std::marker::Model;
@@ -80,7 +80,9 @@ fn none_of(alloc: Global, n: usize) -> Result<Vec<Option<Dup>>, AllocError>
 }
 
 impl Station {
-    ghost use Rattle.dd_station.specs.Run.{start, next, draw_outcome, call_outcome, asking_outcome, memory_of, slot_of, opening_outcome, closing_outcome, app_of, step_takes_memory, client_takes_memory, asks_memory, IsOfClient};
+    ghost use Rattle.dd_station.specs.Run.{start, next, draw_outcome, call_outcome, asking_outcome, memory_of, opening_outcome, closing_outcome, app_of, step_takes_memory, client_takes_memory, asks_memory};
+    ghost use Rattle.dd_dup.specs.Reply.{slot_of};
+    ghost use Rattle.dd_calls.specs.Calls.{IsOfClient};
     ghost use Rattle.dd_table.specs.Opening.{opening, closing};
     ghost use Rattle.dd_dup.specs.Stands.{Stands};
 

@@ -6,12 +6,12 @@ use Rattle.std.proofs.lemmas.Bool.{and_from, ltb-false}
 use Rattle.std.proofs.lemmas.List.Quantifiers.{position-Some}
 use Rattle.std.proofs.lemmas.Option.{slice_get-get_or}
 use Rattle.dd_log.specs.declared.events.Event.TheVariants.{Opened}
-use Rattle.dd_log.specs.declared.answers.OpenRefusal.{OpenRefusal}
-use Rattle.dd_log.specs.declared.answers.LogRefusal.TheVariants as refusals
+use Rattle.dd_calls.specs.declared.answers.OpenRefusal.{OpenRefusal}
+use Rattle.dd_log.specs.declared.refusal.LogRefusal.TheVariants as refusals
 use Rattle.dd_log.specs.Desk.{is_app, is_free, finds_slot}
 use Rattle.dd_log.specs.History.{History, desk, is_full}
-use Rattle.dd_log.specs.declared.answers.CloseRefusal.TheVariants.{Ended}
-use Rattle.dd_log.specs.declared.answers.CloseRefusal.TheVariants as closings
+use Rattle.dd_calls.specs.declared.answers.CloseRefusal.TheVariants.{Ended}
+use Rattle.dd_calls.specs.declared.answers.CloseRefusal.TheVariants as closings
 use Rattle.dd_table.specs.Opening.{opening, closing, is_away, is_denied, is_duplicating, least_free, OpeningsFit}
 
 -- where a cause comes first and the answer isn't it, it doesn't stand

@@ -1,11 +1,11 @@
 -- The answers to an opening and to a closing.
 use Rattle.std.specs.Prelude.{◌≡◌, ℕ, Bool, true, not, ◌==◌, ◌&&◌, ◌||◌, Option, Some, None, is_some, is_none, Result, Ok, Err, position, if◌then◌else◌}
 use Rattle.std.specs.List.{list_any}
-use Rattle.dd_log.specs.declared.answers.OpenRefusal.{OpenRefusal}
-use Rattle.dd_log.specs.declared.answers.OpenRefusal.TheVariants.{SessionDisconnected, AccessDenied, AlreadyDuplicating, NotAvailable, Full}
-use Rattle.dd_log.specs.declared.answers.CloseRefusal.{CloseRefusal}
-use Rattle.dd_log.specs.declared.answers.CloseRefusal.TheVariants.{NoDuplicator, Ended}
-use Rattle.dd_log.specs.declared.answers.CloseRefusal.TheVariants as closings
+use Rattle.dd_calls.specs.declared.answers.OpenRefusal.{OpenRefusal}
+use Rattle.dd_calls.specs.declared.answers.OpenRefusal.TheVariants.{SessionDisconnected, AccessDenied, AlreadyDuplicating, NotAvailable, Full}
+use Rattle.dd_calls.specs.declared.answers.CloseRefusal.{CloseRefusal}
+use Rattle.dd_calls.specs.declared.answers.CloseRefusal.TheVariants.{NoDuplicator, Ended}
+use Rattle.dd_calls.specs.declared.answers.CloseRefusal.TheVariants as closings
 use Rattle.dd_log.specs.declared.events.Event.TheVariants.{Opened, Closed}
 use Rattle.dd_log.specs.Desk.{is_app, finds_slot}
 use Rattle.dd_log.specs.History.{History, desk, is_full, refusal}

@@ -7,11 +7,8 @@ ghost use Rattle.dd_log.specs.Desk.{finds_slot};
 ghost use Rattle.dd_log.specs.History.{desk};
 ghost use Rattle.dd_table.specs.Opening.{opening, closing, is_away, is_denied, is_duplicating, OpeningsFit, ClosingsFit};
 
-#[cfg(test)]
-mod tests;
-
+pub use dd_calls::{CloseRefusal, OpenRefusal};
 use dd_log::Log;
-pub use dd_log::{CloseRefusal, OpenRefusal};
 
 /// Whether the session is disconnected, or the list has ended.
 fn is_away(log: &Log) -> bool

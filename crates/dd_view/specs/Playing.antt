@@ -9,7 +9,7 @@ use Rattle.dd_modes.specs.declared.modes.Mode.{Mode}
 use Rattle.dd_pointer.specs.Shape.{PointerShape}
 use Rattle.dd_pointer.specs.Compositing.{composed}
 use Rattle.dd_acc.specs.Rebuild.{all_moved}
-use Rattle.dd_log.specs.declared.answers.Pointer.{Pointer}
+use Rattle.dd_log.specs.declared.pointer.Pointer.{Pointer}
 use Rattle.dd_log.specs.Desk.{unset}
 use Rattle.dd_record.specs.declared.chunk.Chunk.{Chunk}
 use Rattle.dd_record.specs.declared.chunk.Chunk.TheVariants.{Opening, Frame, End}

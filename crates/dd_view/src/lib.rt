@@ -8,8 +8,6 @@ mod played;
 mod player;
 mod screen;
 mod stage;
-#[cfg(test)]
-mod tests;
 
 pub use laws::{feeding_is_reading, reads_records};
 pub use picture_text::ppm;

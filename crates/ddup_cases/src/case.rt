@@ -1,6 +1,6 @@
 //! One case: the words and the input of a command, and how it should go.
 
-use crate::judging::{Verdict, judge};
+use crate::judging::{Verdict, judge, judge_digest};
 use dd_io::{Bytes, MemSink, MemSource, Numbers};
 use dd_prog::plain;
 use hex::FromHexError;
@@ -21,8 +21,10 @@ enum Part {
 /// A case, as far as its lines have come.
 ///
 /// Its lines are, in this order: `case NAME`; `word WORD` for each word of the command; `status
-/// NAME`; `writes DIGITS`, where the output is told by hexadecimal digits; then `spaces N`, `bytes
-/// DIGITS`, or `input` and the input's lines; then `output` and the output's lines.
+/// NAME`; `fails read` or `fails write`, where that device fails its first call; `writes DIGITS` or
+/// `md5 DIGITS`, where the output or its digest is told by hexadecimal digits; then `spaces N`,
+/// `bytes DIGITS`, `times N TEXT` for each part of the input, or `input` and the input's lines; then
+/// `output` and the output's lines.
 #[derive(Debug, Drop)]
 pub struct Case {
     name: String,
@@ -31,6 +33,11 @@ pub struct Case {
     line: String,
     input: Vec<u8>,
     output: Vec<u8>,
+    /// The digest of the output, where that isn't told itself.
+    digest: Option<Vec<u8>>,
+    /// The calls of the source and of the sink that fail.
+    read_fails: Vec<u64>,
+    write_fails: Vec<u64>,
     part: Part,
 }
 
@@ -38,6 +45,18 @@ pub struct Case {
 fn push_line(bytes: &mut Vec<u8>, line: &str) -> Result<(), AllocError> {
     bytes.extend_from_slice(line.as_bytes())?;
     bytes.push(b'\n')?;
+    Ok(())
+}
+
+/// Appends a text so many times as the number before it says; nothing where there is none.
+fn push_times(bytes: &mut Vec<u8>, counted: &str) -> Result<(), AllocError> {
+    let Some((count, text)) = counted.split_once(' ') else {
+        return Ok(());
+    };
+    let count: u32 = count.parse().unwrap_or(0);
+    for _ in 0..count {
+        bytes.extend_from_slice(text.as_bytes())?;
+    }
     Ok(())
 }
 
@@ -67,6 +86,9 @@ impl Case {
             line: String::new(alloc),
             input: Vec::new(alloc),
             output: Vec::new(alloc),
+            digest: None,
+            read_fails: Vec::new(alloc),
+            write_fails: Vec::new(alloc),
             part: Part::Head,
         }
     }
@@ -96,22 +118,29 @@ impl Case {
             "case" => self.name = String::from_str(alloc, rest)?,
             "word" => self.words.push(String::from_str(alloc, rest)?)?,
             "status" => self.line = line_of(alloc, rest)?,
+            "fails" if rest == "read" => self.read_fails.push(1)?,
+            "fails" if rest == "write" => self.write_fails.push(1)?,
             "spaces" => self.input = vec![in alloc; b' '; rest.parse().unwrap_or(0)]?,
             "bytes" => self.input = bytes_of(alloc, rest)?,
+            "times" => push_times(&mut self.input, rest)?,
             "writes" => self.output = bytes_of(alloc, rest)?,
+            "md5" => self.digest = Some(bytes_of(alloc, rest)?),
             _ => {}
         }
         Ok(())
     }
 
-    /// Does the command, and says how it went. The input is given up.
+    /// Does the command, and says how it went. The input and the calls that fail are given up.
     pub fn run(&mut self, alloc: Global) -> Result<Verdict, AllocError> {
         let input = mem::replace(&mut self.input, Vec::new(alloc));
-        let never = Numbers::from_vec(Vec::new(alloc));
-        let mut source = MemSource::new(Bytes::from_vec(input), PIECE, never);
-        let never = Numbers::from_vec(Vec::new(alloc));
-        let mut sink = MemSink::new(alloc, PIECE, never);
+        let fails = mem::replace(&mut self.read_fails, Vec::new(alloc));
+        let mut source = MemSource::new(Bytes::from_vec(input), PIECE, Numbers::from_vec(fails));
+        let fails = mem::replace(&mut self.write_fails, Vec::new(alloc));
+        let mut sink = MemSink::new(alloc, PIECE, Numbers::from_vec(fails));
         let status = plain(alloc, &self.words, &mut source, &mut sink);
-        Ok(judge(status, &self.line, sink.bytes(), &self.output))
+        Ok(match &self.digest {
+            Some(digest) => judge_digest(status, &self.line, sink.bytes(), digest),
+            None => judge(status, &self.line, sink.bytes(), &self.output),
+        })
     }
 }

@@ -1,20 +1,24 @@
 //! Whether a case went as it should.
 
 ghost use Rattle.std.specs.Prelude.{◌≡◌, ◌↔◌};
+ghost use Rattle.md5.specs.Md5.{md5};
 ghost use Rattle.dd_prog.specs.Status.{line_of};
 
 use dd_prog::Status;
+use md5::{Digest, Md5};
 use std::fmt;
 
 /// How a case went.
 #[derive(Clone, Copy, Debug, PartialEq, Eq)]
 pub enum Verdict {
-    /// The status and each byte of the output are those wanted.
+    /// The status is the one wanted, and so is each byte of the output, or the digest of all.
     AsWanted,
     /// The status is another.
     Ended(Status),
     /// The first byte of the output that is another stands at this place, from 0.
     Wrote(usize),
+    /// The output has another digest.
+    Digested,
 }
 
 impl fmt::Display for Verdict {
@@ -23,6 +27,7 @@ impl fmt::Display for Verdict {
             Verdict::AsWanted => write!(f, "as wanted"),
             Verdict::Ended(status) => write!(f, "ended with {status:?}"),
             Verdict::Wrote(place) => write!(f, "other output from byte {place} on"),
+            Verdict::Digested => write!(f, "output of another digest"),
         }
     }
 }
@@ -45,5 +50,21 @@ pub fn judge(status: Status, wanted_line: &str, got: &[u8], wanted: &[u8]) -> Ve
         Verdict::AsWanted
     } else {
         Verdict::Wrote(first_difference(got, wanted))
+    }
+}
+
+/// Compares as `judge`, where the output is told by its digest, the bytes of its MD5.
+pub fn judge_digest(status: Status, wanted_line: &str, got: &[u8], digest: &[u8]) -> Verdict
+    ensures { (result ≡ Verdict.AsWanted)
+        ↔ ((line_of status ≡ wanted_line.now) × (md5 got.now ≡ digest.now)) }
+{
+    if status.line() != wanted_line {
+        return Verdict::Ended(status);
+    }
+    let made = Md5::digest(got);
+    if made.as_slice() == digest {
+        Verdict::AsWanted
+    } else {
+        Verdict::Digested
     }
 }

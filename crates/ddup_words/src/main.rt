@@ -1,4 +1,4 @@
-//! `ddup` once more, whose stored run has words that are no command.
+//! `ddup`: a desktop duplication service, told by a script.
 #![tactic(auto)]
 
 use std::process::ExitCode;

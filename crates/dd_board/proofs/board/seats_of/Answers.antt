@@ -1,6 +1,6 @@
 use Rattle.std.proofs.Common.{ℕ, ◌+◌, length, ◌∙◌, List, [], ◌∷◌, ◌++◌, get_or, sym, ap, arith}
 use Rattle.std.proofs.lemmas.List.{length_push}
-use Rattle.dd_log.specs.declared.answers.Role.TheVariants.{Drawer}
+use Rattle.dd_calls.specs.declared.answers.Role.TheVariants.{Drawer}
 use Rattle.dd_board.specs.declared.board.Seat.{Seat}
 use Rattle.dd_board.specs.Boards.{seat_of}
 use Rattle.dd_board.specs.Seats.{Seated}

@@ -4,7 +4,7 @@ use Rattle.std.specs.Prelude.{IfOk, IfSome}
 use Rattle.dd_prog.specs.Commands.{command_of, task}
 use Rattle.dd_prog.specs.Exchange.{Exchange, side}
 use Rattle.dd_prog.specs.Outcome.{TaskEnds}
-use Rattle.dd_prog.specs.Telling.{Tells}
+use Rattle.dd_prog.specs.Telling.{ToldByTrace}
 use Rattle.dd_prog.proofs.Completing.{task_completes}
 use Rattle.dd_prog.proofs.Told.{tells}
 use Rattle.dd_prog.proofs.command.plain.Goals as goal
@@ -37,5 +37,5 @@ returns-in-Ok-Some-clause-headline g c done =
     let is : command_of (map string_bytes c.args.words.now.items) ≡ Some command =
     ap (λ ws. command_of (map string_bytes ws)) (sym c.deref.ensures.value) ∙ (sym found ∙ search rules)
     in
-    subst (λ o. IfSome o (λ named. Tells named x)) (sym is)
+    subst (λ o. IfSome o (λ named. ToldByTrace named x)) (sym is)
     (tells command x (subst (λ status. TaskEnds (task command) x status) done c.perform.ensures.outcome))

@@ -1,8 +1,8 @@
 -- The script of each seed can be run, and has few steps.
 use Rattle.std.proofs.Common.{◌<◌, ◌-◌, ◌^◌, length, sym, subst, arith}
-use Rattle.dd_script.specs.Script.{IsRunnable}
+use Rattle.dd_script_read.specs.Script.{IsRunnable}
 use Rattle.dd_gen.proofs.Every.{scripts_are_made}
-use Rattle.dd_prog.proofs.Generated.{made_runnable}
+use Rattle.dd_prog.proofs.MadeRuns.{made_runnable}
 use Rattle.dd_prog.proofs.making.counted_text.Goals as goal
 
 pub count_run-requires-clause-whole : goal.count_run-requires-clause-whole

@@ -1,7 +1,7 @@
 -- The first step, one more, a fault in between, and the end.
 use Rattle.std.proofs.Common.{ℕ, ◌+◌, ◌<◌, length, sym, ap, subst, arith}
 use Rattle.std.proofs.lemmas.Result.{err_from_is_err_and}
-use Rattle.dd_station.specs.Run.{IsOfClient}
+use Rattle.dd_calls.specs.Calls.{IsOfClient}
 use Rattle.dd_prog.proofs.Playing.{of_client_at}
 use Rattle.dd_prog.proofs.Recorded.{recorded_none, recorded_more, recorded_all, recorded_stopped}
 use Rattle.dd_prog.proofs.recording.record_steps.Goals as goal

@@ -1,7 +1,7 @@
 -- The first step, one more, a fault in between, and the end.
 use Rattle.std.proofs.Common.{ℕ, ◌+◌, ◌<◌, length, sym, ap, subst, arith}
 use Rattle.std.proofs.lemmas.Result.{err_from_is_err_and}
-use Rattle.dd_station.specs.Run.{IsOfClient}
+use Rattle.dd_calls.specs.Calls.{IsOfClient}
 use Rattle.dd_prog.proofs.Playing.{so_far_none, so_far_more, so_far_all, of_client_at, stopped}
 use Rattle.dd_prog.proofs.replay.play_all.Goals as goal
 

@@ -1,10 +1,12 @@
--- Interrupted writes moved nothing, and the count never fell.
-use Rattle.std.proofs.Common.{◌≤◌}
+-- Interrupted writes moved nothing, and each was counted.
+use Rattle.std.proofs.Common.{◌≡◌, ◌-◌, ◌≤◌}
 use Rattle.std.specs.Io.KnownBytes.{Keeps}
+use Rattle.dd_io.specs.Causes.{raised}
 use Rattle.dd_io.proofs.counted.Counted.write_retrying.Given as goal
 
-abbrev pub invariant-loop : goal.invariant-loop
-invariant-loop g l = record {
+abbrev pub invariant-loop-tries : goal.invariant-loop-tries
+invariant-loop-tries g l = record {
   kept : Keeps (g.W.Write.contents l.fn.self.device) (g.W.Write.contents l.self.device);
+  counted : l.self.faults ≡ raised (l.tries - 1) l.fn.self.faults;
   later : l.fn.self.faults ≤ l.self.faults;
 }

@@ -1,6 +1,6 @@
 use Rattle.std.proofs.Common.{◌≡◌, true, refl, Ok, Some, None, Option}
 use Rattle.std.specs.Prelude.{is_none}
-use Rattle.dd_log.specs.declared.answers.LogRefusal.{LogRefusal}
+use Rattle.dd_log.specs.declared.refusal.LogRefusal.{LogRefusal}
 use Rattle.dd_log.specs.History.{refusal, verdict}
 use Rattle.dd_log.proofs.Legal.{may_add_of_parts}
 use Rattle.dd_log.proofs.log.Log.append.Goals as goal

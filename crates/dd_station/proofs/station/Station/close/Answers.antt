@@ -1,13 +1,14 @@
 use Rattle.std.proofs.Common.{◌≡◌, ℕ, ◌+◌, ◌-◌, ◌<◌, ◌∙◌, List, Option, Some, None, Ok, Result, length, sym, ap, subst, arith}
 use Rattle.std.specs.Prelude.{slice_set}
 use Rattle.dd_log.specs.declared.events.Event.TheVariants.{Closed}
-use Rattle.dd_log.specs.declared.answers.CloseRefusal.{CloseRefusal}
+use Rattle.dd_calls.specs.declared.answers.CloseRefusal.{CloseRefusal}
 use Rattle.dd_log.specs.History.{History, with_entry}
 use Rattle.dd_table.specs.Opening.{closing}
 use Rattle.dd_table.proofs.Openings.{closing_granted}
 use Rattle.dd_dup.specs.Reply.{Memory}
 use Rattle.dd_dup.specs.Duplicator.{Duplicator}
-use Rattle.dd_station.specs.Run.{State, memory_of, slot_of, closing_outcome}
+use Rattle.dd_station.specs.Run.{State, memory_of, closing_outcome}
+use Rattle.dd_dup.specs.Reply.{slot_of}
 use Rattle.dd_station.specs.Station.{state, IsKept}
 use Rattle.dd_station.proofs.Kept.{kept_closed, slot_open, memories-set}
 use Rattle.dd_station.proofs.station.Station.close.Goals as goal

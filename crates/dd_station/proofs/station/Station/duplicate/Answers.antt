@@ -3,9 +3,9 @@ use Rattle.std.proofs.Common.{◌≡◌, ℕ, ◌+◌, ◌-◌, ◌<◌, ◌≤�
 use Rattle.std.specs.Prelude.{slice_set}
 use Rattle.dd_log.specs.declared.events.Entry.{Entry}
 use Rattle.dd_log.specs.declared.events.Event.TheVariants as events
-use Rattle.dd_log.specs.declared.answers.Answer.{Answer}
-use Rattle.dd_log.specs.declared.answers.Answer.TheVariants.{Opened, NotOpened}
-use Rattle.dd_log.specs.declared.answers.OpenRefusal.{OpenRefusal}
+use Rattle.dd_calls.specs.declared.answers.Answer.{Answer}
+use Rattle.dd_calls.specs.declared.answers.Answer.TheVariants.{Opened, NotOpened}
+use Rattle.dd_calls.specs.declared.answers.OpenRefusal.{OpenRefusal}
 use Rattle.dd_log.specs.History.{History, with_entry}
 use Rattle.dd_table.specs.Opening.{opening}
 use Rattle.dd_dup.specs.Reply.{Memory}

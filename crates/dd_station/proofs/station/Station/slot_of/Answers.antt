@@ -3,7 +3,8 @@ use Rattle.std.specs.Prelude.{position, IsTrue, IfSome}
 use Rattle.dd_log.specs.declared.events.Event.TheVariants.{Closed}
 use Rattle.dd_log.specs.Desk.{is_app, finds_slot}
 use Rattle.dd_log.specs.History.{desk}
-use Rattle.dd_station.specs.Run.{State, memory_of, slot_of}
+use Rattle.dd_station.specs.Run.{State, memory_of}
+use Rattle.dd_dup.specs.Reply.{slot_of}
 use Rattle.dd_station.proofs.Kept.{app_there, slot_there, slot_taken_if}
 use Rattle.dd_station.proofs.station.Station.slot_of.Goals as goal
 

@@ -4,7 +4,8 @@ use Rattle.dd_log.specs.History.{History, begun}
 use Rattle.dd_dup.specs.Reply.{Memory}
 use Rattle.dd_dup.specs.Duplicator.{Duplicator}
 use Rattle.dd_station.specs.Run.{State}
-use Rattle.dd_station.specs.Station.{memory, memories, state}
+use Rattle.dd_dup.specs.Stands.{memory}
+use Rattle.dd_station.specs.Station.{memories, state}
 use Rattle.dd_station.proofs.station.Station.start.Goals as goal
 
 abbrev with_memories : History → List ℕ → List (Option Memory) → State

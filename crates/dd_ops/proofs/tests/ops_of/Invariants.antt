@@ -1,6 +1,0 @@
-use Rattle.std.proofs.Common.{IsTrue}
-use Rattle.dd_ops.specs.Operations.{all_fit}
-use Rattle.dd_ops.proofs.tests.ops_of.Given as goal
-
-abbrev pub invariant-loop-draw : goal.invariant-loop-draw
-invariant-loop-draw g l = IsTrue (all_fit 4 3 l.ops)

@@ -1,0 +1,5 @@
+use Rattle.dd_playback.proofs.WholeRecord.{records_are_read}
+use Rattle.dd_playback.proofs.records.records_are_read.Goals as goal
+
+pub returns : goal.returns
+returns c = records_are_read

@@ -1,9 +1,0 @@
-use Rattle.std.proofs.Common.{◌≡◌, map}
-use Rattle.dd_script.specs.Tree.{tree_data}
-use Rattle.dd_script.specs.Script.{each, step_of}
-use Rattle.dd_script.proofs.Each.{with_front, left}
-use Rattle.dd_script.proofs.reading.calls.each_step.Given as goal
-
-abbrev pub invariant-loop-tree : goal.invariant-loop-tree
-invariant-loop-tree l =
-    with_front l.steps.items (left step_of l.trees l.tree-index) ≡ each step_of (map tree_data l.trees)

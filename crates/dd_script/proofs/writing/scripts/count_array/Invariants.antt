@@ -1,7 +1,0 @@
-use Rattle.std.proofs.Common.{◌≡◌, map, take}
-use Rattle.serde_json.specs.View.{view}
-use Rattle.dd_script.specs.Answers.{count}
-use Rattle.dd_script.proofs.writing.scripts.count_array.Given as goal
-
-abbrev pub invariant-loop-n : goal.invariant-loop-n
-invariant-loop-n l = map view l.list.items ≡ map count (take l.n-index l.numbers)

@@ -1,0 +1,15 @@
+pub mod Trees
+pub mod Readings
+pub mod Keys
+pub mod TokenCount
+pub mod TreeSize
+pub mod Holds
+pub mod StepCount
+pub mod Each
+pub mod Runnable
+pub mod Causes
+pub mod Faults
+pub mod ByPieces
+pub mod OnLiterals
+pub mod ScriptExamples
+pub mod Limits

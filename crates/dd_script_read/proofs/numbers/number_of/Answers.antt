@@ -1,0 +1,23 @@
+use Rattle.std.proofs.Common.{◌≡◌, ◌==◌, ◌∙◌, sym, ap, true, false, drop, get_or, take_all, length-drop, arith}
+use Rattle.fast_float.specs.Text.{scan}
+use Rattle.serde_json.specs.Read.{number_of, number_from}
+use Rattle.dd_script_read.proofs.numbers.number_of.Goals as goal
+
+pub returns-then-has_minus : goal.returns-then-has_minus
+unfolding number_of
+returns-then-has_minus c =
+    let text = c.as_bytes-bytes.result.now in
+    let minus : (get_or text 0 0 == 45) ≡ true = sym c.if-has_minus.ensures.minus in
+    let rest = take_all _ (drop 1 text) (omega (arith, length-drop 1 text)) in
+    let signed : number_from true (scan (drop 1 text)) ≡ number_of text = rw minus in
+    c.negative.ensures ∙ ap (number_from true) (c.scan.ensures.parts ∙ ap scan rest) ∙ signed
+    ∙ ap number_of c.as_bytes-bytes.ensures.value
+
+pub returns-else-has_minus : goal.returns-else-has_minus
+unfolding number_of
+returns-else-has_minus c =
+    let text = c.as_bytes-bytes.result.now in
+    let minus : (get_or text 0 0 == 45) ≡ false = sym c.if-has_minus.ensures.minus in
+    let unsigned : number_from false (scan text) ≡ number_of text = rw minus in
+    c.unsigned.ensures ∙ ap (number_from false) c.scan-else-has_minus.ensures.parts ∙ unsigned
+    ∙ ap number_of c.as_bytes-bytes.ensures.value

@@ -1,5 +1,0 @@
-use Rattle.dd_station.proofs.Independence.{clients_are_independent}
-use Rattle.dd_station.proofs.laws.clients_are_independent.Goals as goal
-
-pub returns : goal.returns
-returns c = clients_are_independent

@@ -1,5 +1,0 @@
-use Rattle.std.proofs.Common.{◌≡◌, length}
-use Rattle.dd_station.proofs.tests.holds.Given as goal
-
-abbrev pub invariant-loop-act : goal.invariant-loop-act
-invariant-loop-act g l = record { clients : length l.station.clients ≡ 2; steps : l.station.steps ≡ l.act-index }
