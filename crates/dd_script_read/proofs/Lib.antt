@@ -12,4 +12,4 @@ pub mod Faults
 pub mod ByPieces
 pub mod OnLiterals
 pub mod ScriptExamples
-pub mod Limits
+pub mod Most

@@ -6,4 +6,12 @@ mod dup;
 #[cfg(test)]
 mod log;
 #[cfg(test)]
+mod prog;
+#[cfg(test)]
+mod record;
+#[cfg(test)]
+mod script;
+#[cfg(test)]
 mod station;
+#[cfg(test)]
+mod view;
