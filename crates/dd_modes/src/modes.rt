@@ -22,6 +22,38 @@ pub enum Rotation {
     Rotate270,
 }
 
+impl Rotation {
+    ghost use Rattle.dd_modes.specs.Numbers.{rotation_number, rotation_numbered};
+
+    /// The API's number of a rotation, 0 to 4.
+    pub fn number(self) -> u32
+        ensures { result ≡ rotation_number self }
+    {
+        match self {
+            Rotation::Unspecified => 0,
+            Rotation::Identity => 1,
+            Rotation::Rotate90 => 2,
+            Rotation::Rotate180 => 3,
+            Rotation::Rotate270 => 4,
+        }
+    }
+
+    /// The rotation of one of the API's numbers, 0 to 4.
+    #[tactic(auto, unfolding(crate::specs::Numbers::rotation_numbered))]
+    pub fn numbered(number: u32) -> Option<Rotation>
+        ensures { result ≡ rotation_numbered number }
+    {
+        match number {
+            0 => Some(Rotation::Unspecified),
+            1 => Some(Rotation::Identity),
+            2 => Some(Rotation::Rotate90),
+            3 => Some(Rotation::Rotate180),
+            4 => Some(Rotation::Rotate270),
+            _ => None,
+        }
+    }
+}
+
 /// The size of a surface in pixels, and how its picture is turned.
 #[derive(Clone, Copy, Debug, PartialEq, Eq, Hash)]
 pub struct Mode {

@@ -16,7 +16,8 @@ use Rattle.dd_modes.specs.declared.modes.Rotation.TheVariants.{Unspecified, Iden
 use Rattle.dd_record.specs.declared.chunk.Chunk.TheVariants.{Opening, End}
 use Rattle.dd_record.specs.Reading.{Reading, Good, Bad, Short, ◌>>=◌, come, kept, number, coordinate}
 use Rattle.dd_record.specs.Grammar.{width_of, height_of, rotation_of, mode_of, opening_of, tagged, chunk_of}
-use Rattle.dd_record.specs.Writing.{rotation_number, end_bytes, opening_bytes}
+use Rattle.dd_modes.specs.Numbers.{rotation_number, rotation_numbered}
+use Rattle.dd_record.specs.Writing.{end_bytes, opening_bytes}
 
 pub come_is : (at size : ℕ) (bytes field : List ℕ) → at + size ≤ length bytes → take size (drop at bytes) ≡ field
     → come at size bytes ≡ Good field
@@ -55,6 +56,7 @@ pub go : {A B : Type 0} (r : Reading A) (f : A → Reading B) (x : A) (y : Readi
 go r f x y is rest = ap (λ r. r >>= f) is ∙ rest
 
 rotation_is : (r : Rotation) → rotation_of (rotation_number r) ≡ Good r
+unfolding rotation_numbered
 rotation_is Unspecified = refl
 rotation_is Identity = refl
 rotation_is Rotate90 = refl

@@ -8,6 +8,8 @@ use Rattle.dd_geom.specs.declared.rect.Move.{Move}
 use Rattle.dd_geom.specs.declared.rect.TheConstants.{MOVE_BYTES}
 use Rattle.dd_geom.specs.Bytes.{coordinate_at, move_of, rect_of}
 use Rattle.dd_modes.specs.declared.modes.Mode.{Mode}
+use Rattle.dd_modes.specs.declared.modes.Rotation.{Rotation}
+use Rattle.dd_modes.specs.Numbers.{rotation_numbered}
 use Rattle.dd_pointer.specs.declared.shape.ShapeFault.{ShapeFault}
 use Rattle.dd_pointer.specs.Shape.{PointerShape}
 use Rattle.dd_record.specs.declared.head.Head.{Head}
@@ -15,7 +17,7 @@ use Rattle.dd_record.specs.declared.layout.TheConstants.{FRAME_HEAD_BYTES, PIXEL
 use Rattle.dd_record.specs.Reading.{Reading, Good, Bad, Short, ◌>>=◌, come, kept, number, coordinate, fields}
 use Rattle.dd_record.specs.Dirt.{pixel_count}
 use Rattle.dd_record.proofs.Rules.{parts}
-use Rattle.dd_record.specs.Grammar.{width_of, height_of, rotation_of, mode_of, last_present_of, last_mouse_of, accumulated_of, coalesced_of, protected_of, pointer_of, meta_of, shape_size_of, move_count_of, rect_count_of, info_of, head_of, move_at, moves_of, rect_at, dirt_of, pixel_at, pixels_of, behind_rects, behind_pixels, shape_head, shape_head_at, or_bad, shape_at, new_shape_of, frame_chunk_of, frame_of, frame_after, opening_of, tagged, chunk_of, BadHasCome}
+use Rattle.dd_record.specs.Grammar.{width_of, height_of, rotation_or_bad, rotation_of, mode_of, last_present_of, last_mouse_of, accumulated_of, coalesced_of, protected_of, pointer_of, meta_of, shape_size_of, move_count_of, rect_count_of, info_of, head_of, move_at, moves_of, rect_at, dirt_of, pixel_at, pixels_of, behind_rects, behind_pixels, shape_head, shape_head_at, or_bad, shape_at, new_shape_of, frame_chunk_of, frame_of, frame_after, opening_of, tagged, chunk_of, BadHasCome}
 
 module _ (n : ℕ) where
   -- the place of a bad field is at most n
@@ -108,9 +110,11 @@ module _ (bytes : List ℕ) where
   coordinate_come at = made_come at 4 (λ field. coordinate_at field 0)
 
   rotation_come : (x : ℕ) → 9 ≤ length bytes → Came (rotation_of x)
-  rotation_come x within =
-      if_come _ (x == 0) _ _ tt (if_come _ (x == 1) _ _ tt (if_come _ (x == 2) _ _ tt
-      (if_come _ (x == 3) _ _ tt (if_come _ (x == 4) _ _ tt within))))
+  rotation_come x within = turn_come (rotation_numbered x) within
+
+  turn_come : (turn : Option Rotation) → 9 ≤ length bytes → Came (rotation_or_bad turn)
+  turn_come (Some r) within = tt
+  turn_come None within = within
 
   mode_come : Came (mode_of bytes)
   unfolding mode_of width_of height_of

@@ -9,7 +9,7 @@ use Rattle.dd_geom.specs.Bytes.{rect_of, move_of, coordinate_at}
 use Rattle.dd_geom.specs.Rect.{is_inside, is_move_inside}
 use Rattle.dd_modes.specs.declared.modes.Mode.{Mode}
 use Rattle.dd_modes.specs.declared.modes.Rotation.{Rotation}
-use Rattle.dd_modes.specs.declared.modes.Rotation.TheVariants.{Unspecified, Identity, Rotate90, Rotate180, Rotate270}
+use Rattle.dd_modes.specs.Numbers.{rotation_numbered}
 use Rattle.dd_pointer.specs.declared.kind.Kind.{Kind}
 use Rattle.dd_pointer.specs.declared.kind.TheConstants.{MAX_BYTES}
 use Rattle.dd_pointer.specs.declared.shape.ShapeFault.{ShapeFault}
@@ -50,14 +50,13 @@ unfoldable pub height_of : ℕ → List ℕ → Reading ℕ
 height_of width bytes =
     number 5 4 bytes >>= λ n. kept 5 (nat_le 1 n && nat_le n MAX_SIDE && nat_le (width * n) MAX_PIXELS) n
 
--- the API's numbers of rotations (DXGI_MODE_ROTATION)
+-- a rotation by its number
+abbrev pub rotation_or_bad : Option Rotation → Reading Rotation
+rotation_or_bad (Some r) = Good r
+rotation_or_bad None = Bad 9
+
 abbrev pub rotation_of : ℕ → Reading Rotation
-rotation_of n =
-    if n == 0 then Good Unspecified
-    else (if n == 1 then Good Identity
-    else (if n == 2 then Good Rotate90
-    else (if n == 3 then Good Rotate180
-    else (if n == 4 then Good Rotate270 else Bad 9))))
+rotation_of n = rotation_or_bad (rotation_numbered n)
 
 unfoldable pub mode_of : List ℕ → Reading Mode
 mode_of bytes = do

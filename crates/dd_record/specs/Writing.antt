@@ -10,8 +10,7 @@ use Rattle.dd_geom.specs.Rect.{IsSize, FitsSides, FitsMove, is_inside, is_move_i
 use Rattle.dd_bits.specs.CanonicalList.{canonical_list}
 use Rattle.dd_grid.specs.declared.cell.TheConstants.{COLOURS}
 use Rattle.dd_modes.specs.declared.modes.Mode.{Mode}
-use Rattle.dd_modes.specs.declared.modes.Rotation.{Rotation}
-use Rattle.dd_modes.specs.declared.modes.Rotation.TheVariants.{Unspecified, Identity, Rotate90, Rotate180, Rotate270}
+use Rattle.dd_modes.specs.Numbers.{rotation_number}
 use Rattle.dd_pointer.specs.Shape.{PointerShape, IsShape, number}
 use Rattle.dd_calls.specs.declared.answers.FrameInfo.{FrameInfo}
 use Rattle.dd_log.specs.declared.events.TheConstants.{MAX_CAPACITY}
@@ -25,14 +24,6 @@ use Rattle.dd_record.specs.Dirt.{covered_by, pixel_count}
 use Rattle.dd_record.specs.Grammar.{chunk_of}
 
 -- ---- bytes
-
--- the API's number of a rotation (DXGI_MODE_ROTATION)
-abbrev pub rotation_number : Rotation → ℕ
-rotation_number Unspecified = 0
-rotation_number Identity = 1
-rotation_number Rotate90 = 2
-rotation_number Rotate180 = 3
-rotation_number Rotate270 = 4
 
 abbrev pub u32_bytes : ℕ → List ℕ
 u32_bytes n = little_bytes 4 n

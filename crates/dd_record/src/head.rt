@@ -46,14 +46,7 @@ fn height_of(width: u32, bytes: &[u8]) -> Result<u32, Stop>
 fn rotation_of(n: u32) -> Result<Rotation, Stop>
     ensures { Gives result (rotation_of n) }
 {
-    match n {
-        0 => Ok(Rotation::Unspecified),
-        1 => Ok(Rotation::Identity),
-        2 => Ok(Rotation::Rotate90),
-        3 => Ok(Rotation::Rotate180),
-        4 => Ok(Rotation::Rotate270),
-        _ => Err(Stop::Bad { at: 9 }),
-    }
+    Rotation::numbered(n).ok_or(Stop::Bad { at: 9 })
 }
 
 /// The mode of an opening chunk.

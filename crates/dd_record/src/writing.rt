@@ -10,7 +10,7 @@ ghost use Rattle.dd_acc.specs.declared.interval.TheConstants.{MAX_MOVES};
 ghost use Rattle.dd_coal.specs.declared.coalescing.TheConstants.{MAX_RECTS};
 ghost use Rattle.dd_record.specs.Frames.{held_bytes, pixels_in};
 ghost use Rattle.dd_record.specs.Sinks.{change, Writes};
-ghost use Rattle.dd_record.specs.Writing.{magic, rotation_number, opening_bytes, head_bytes, shape_head_bytes, shape_bytes, frame_bytes, end_bytes};
+ghost use Rattle.dd_record.specs.Writing.{magic, opening_bytes, head_bytes, shape_head_bytes, shape_bytes, frame_bytes, end_bytes};
 
 use crate::layout::{FRAME_HEAD_BYTES, OPENING_BYTES, SHAPE_HEAD_BYTES};
 use crate::pages::{write_bytes, write_pixels};
@@ -23,7 +23,7 @@ use dd_geom::{MOVE_BYTES, Move, RECT_BYTES, Rect};
 use dd_grid::Surface;
 use dd_io::{Failed, Sink, write_all};
 use dd_meta::{MOVES_BUFFER, RECTS_BUFFER, put_moves, put_rects};
-use dd_modes::{Mode, Rotation};
+use dd_modes::Mode;
 use dd_pointer::Shape;
 
 /// Appends the four bytes that a record begins with, `DDR1`; where the sink fails, the first of them.
@@ -37,25 +37,12 @@ pub fn write_magic<K: Sink>(k: &mut K) -> Result<(), Failed>
     write_all(k, b"DDR1")
 }
 
-/// The API's number of a rotation, 0 to 4.
-fn rotation_number(rotation: Rotation) -> u32
-    ensures { result ≡ rotation_number rotation }
-{
-    match rotation {
-        Rotation::Unspecified => 0,
-        Rotation::Identity => 1,
-        Rotation::Rotate90 => 2,
-        Rotation::Rotate180 => 3,
-        Rotation::Rotate270 => 4,
-    }
-}
-
 /// The bytes of an opening chunk.
 #[tactic(auto, unfolding(crate::specs::Writing::opening_bytes))]
 fn opening_bytes(mode: Mode) -> [u8; 13]
     ensures { result ≡ opening_bytes mode }
 {
-    let numbers = [mode.width, mode.height, rotation_number(mode.rotation)];
+    let numbers = [mode.width, mode.height, mode.rotation.number()];
     let mut bytes = [1; OPENING_BYTES];
     LittleEndian::write_u32_into(&numbers, &mut bytes[1..]);
     bytes

@@ -30,7 +30,8 @@ use Rattle.dd_calls.specs.declared.steps.Step.{Step}
 use Rattle.dd_calls.specs.declared.steps.Step.TheVariants.{Draw, Call}
 use Rattle.dd_calls.specs.declared.steps.Script.{Script}
 use Rattle.dd_script_read.specs.declared.calls.TheConstants.{MAX_BUFFER}
-use Rattle.dd_script_write.specs.Answers.{count, coordinate, number_of, point_tree, rect_tree, row_digits}
+use Rattle.dd_modes.specs.Numbers.{rotation_number}
+use Rattle.dd_script_write.specs.Answers.{count, coordinate, point_tree, rect_tree, row_digits}
 use Rattle.dd_script_read.specs.Script.{keeps_limits}
 use Rattle.dd_script_read.specs.Readable.{is_number, is_coordinate, is_point, is_rectangle, is_colour, is_operation, is_byte, is_drawing, is_buffer, is_call, is_step, is_shape, is_readable}
 use Rattle.dd_script_write.specs.Spelling.{op_tree, shape_step_tree, draw_tree, step_tree, mode_tree, spelling}
@@ -213,7 +214,7 @@ mode_plain m h =
     let wide = and_parts (nat_le 1 m.width) (nat_le m.width MAX_SIDE) low.0 in
     let width = count_plain m.width (side_passes m.width wide.1) in
     let height = count_plain m.height (side_passes m.height tall.1) in
-    (width, (height, (count_plain (number_of m.rotation) (turn_passes m.rotation), tt)))
+    (width, (height, (count_plain (rotation_number m.rotation) (turn_passes m.rotation), tt)))
 
 modes_plain : (ms : List Mode) → are_modes ms ≡ true → ArePlain (items_of (map mode_tree ms))
 unfolding are_modes

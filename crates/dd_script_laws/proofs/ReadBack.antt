@@ -36,8 +36,9 @@ use Rattle.dd_calls.specs.declared.steps.Step.{Step}
 use Rattle.dd_calls.specs.declared.steps.Step.TheVariants.{Draw, Call}
 use Rattle.dd_calls.specs.declared.steps.Script.{Script}
 use Rattle.dd_script_read.specs.declared.calls.TheConstants.{MAX_BUFFER}
-use Rattle.dd_script_write.specs.Answers.{count, coordinate, array_of, part, number_of, point_tree, rect_tree, colour_bytes, row_digits}
-use Rattle.dd_script_read.specs.Script.{listed, each, u32_of, i32_of, rect_of, point_of, colour_at, colour_of, colours_in, colours_from, bytes_of, colours_of, fill_of, blit_of, cover_of, scroll_of, operation_of, operations_of, present_of, pointer_of, shape_of, change_of, switch_of, has_true, session_of, single_of, draw_of, call_named, filling_named, buffer_of, plain_call_of, filling_call_of, client_call_of, call_of, step_of, steps_of, rotation_numbered, mode_of, modes_of, apps_of, parts_of, keeps_limits, script_of}
+use Rattle.dd_modes.specs.Numbers.{rotation_number, rotation_numbered}
+use Rattle.dd_script_write.specs.Answers.{count, coordinate, array_of, part, point_tree, rect_tree, colour_bytes, row_digits}
+use Rattle.dd_script_read.specs.Script.{listed, each, u32_of, i32_of, rect_of, point_of, colour_at, colour_of, colours_in, colours_from, bytes_of, colours_of, fill_of, blit_of, cover_of, scroll_of, operation_of, operations_of, present_of, pointer_of, shape_of, change_of, switch_of, has_true, session_of, single_of, draw_of, call_named, filling_named, buffer_of, plain_call_of, filling_call_of, client_call_of, call_of, step_of, steps_of, mode_of, modes_of, apps_of, parts_of, keeps_limits, script_of}
 use Rattle.dd_script_read.specs.Readable.{is_number, is_coordinate, is_point, is_rectangle, is_colour, is_operation, is_byte, is_shape, is_drawing, is_buffer, is_call, is_step, is_readable}
 use Rattle.dd_script_laws.specs.ReadBack.{IsReadBack}
 use Rattle.dd_script_write.specs.Spelling.{colour_tree, colours_tree, op_tree, shape_step_tree, draw_tree, name_of, buffer_given, step_tree, mode_tree, spelling}
@@ -293,7 +294,7 @@ step_back (Call client call) h =
 
 -- ---- the output
 
-rotation_back : (r : Rotation) → rotation_numbered (number_of r) ≡ Some r
+rotation_back : (r : Rotation) → rotation_numbered (rotation_number r) ≡ Some r
 unfolding rotation_numbered
 rotation_back Unspecified = refl
 rotation_back Identity = refl
@@ -301,7 +302,7 @@ rotation_back Rotate90 = refl
 rotation_back Rotate180 = refl
 rotation_back Rotate270 = refl
 
-pub turn_passes : (r : Rotation) → is_number (number_of r) ≡ true
+pub turn_passes : (r : Rotation) → is_number (rotation_number r) ≡ true
 turn_passes Unspecified = refl
 turn_passes Identity = refl
 turn_passes Rotate90 = refl
@@ -319,7 +320,7 @@ mode_back m h =
     let tall = and_parts _ (nat_le m.height MAX_SIDE) high.0 in
     let low = and_parts _ (nat_le 1 m.height) tall.0 in
     let wide = and_parts (nat_le 1 m.width) (nat_le m.width MAX_SIDE) low.0 in
-    let turn = number_back (number_of m.rotation) (turn_passes m.rotation) in
+    let turn = number_back (rotation_number m.rotation) (turn_passes m.rotation) in
     let width = number_back m.width (side_passes m.width wide.1) in
     let height = number_back m.height (side_passes m.height tall.1) in
     rw (width, height, turn, rotation_back m.rotation) refl

@@ -11,8 +11,7 @@ use Rattle.hex.specs.Hex.{decode_of, decode_sized}
 use Rattle.dd_geom.specs.declared.rect.Point.{Point}
 use Rattle.dd_geom.specs.declared.rect.Rect.{Rect}
 use Rattle.dd_modes.specs.declared.modes.Mode.{Mode}
-use Rattle.dd_modes.specs.declared.modes.Rotation.{Rotation}
-use Rattle.dd_modes.specs.declared.modes.Rotation.TheVariants.{Unspecified, Identity, Rotate90, Rotate180, Rotate270}
+use Rattle.dd_modes.specs.Numbers.{rotation_numbered}
 use Rattle.dd_modes.specs.Modes.{are_modes}
 use Rattle.dd_pointer.specs.Shape.{reading}
 use Rattle.dd_ops.specs.declared.operations.Op.{Op}
@@ -297,15 +296,6 @@ unfoldable pub steps_of : Data → Option (List Step)
 steps_of d = list_of d >>= each step_of
 
 -- ---- the output
-
-unfoldable pub rotation_numbered : ℕ → Option Rotation
-rotation_numbered n =
-    if n == 0 then Some Unspecified
-    else if n == 1 then Some Identity
-    else if n == 2 then Some Rotate90
-    else if n == 3 then Some Rotate180
-    else if n == 4 then Some Rotate270
-    else None
 
 -- [width, height, rotation]
 unfoldable pub mode_of : Data → Option Mode

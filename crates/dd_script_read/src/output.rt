@@ -3,28 +3,13 @@
 ghost use Rattle.std.specs.Prelude.{◌≡◌, map};
 ghost use Rattle.dd_script_read.specs.Tree.{tree_data};
 ghost use Rattle.dd_script_read.specs.Reading.{Gives};
-ghost use Rattle.dd_script_read.specs.Script.{each, u32_of, rotation_numbered, mode_of, modes_of, apps_of};
+ghost use Rattle.dd_script_read.specs.Script.{each, u32_of, mode_of, modes_of, apps_of};
 
 use crate::fault::ScriptFault;
 use crate::tree::{Tree, at, has_items, list_of, u32_of};
 use dd_log::Apps;
 use dd_modes::{Mode, Modes, Rotation};
 use std::alloc::Global;
-
-/// A rotation by its number.
-#[tactic(auto, unfolding(crate::specs::Script::rotation_numbered))]
-fn rotation_numbered(number: u32) -> Option<Rotation>
-    ensures { result ≡ rotation_numbered number }
-{
-    match number {
-        0 => Some(Rotation::Unspecified),
-        1 => Some(Rotation::Identity),
-        2 => Some(Rotation::Rotate90),
-        3 => Some(Rotation::Rotate180),
-        4 => Some(Rotation::Rotate270),
-        _ => None,
-    }
-}
 
 /// `[width, height, rotation]`.
 #[tactic(auto, unfolding(crate::specs::Script::mode_of))]
@@ -36,7 +21,7 @@ fn mode_of(tree: &Tree<'_>) -> Option<Mode>
     }
     let width = u32_of(at(tree, 0)?)?;
     let height = u32_of(at(tree, 1)?)?;
-    let rotation = rotation_numbered(u32_of(at(tree, 2)?)?)?;
+    let rotation = Rotation::numbered(u32_of(at(tree, 2)?)?)?;
     Some(Mode {
         width,
         height,

@@ -11,8 +11,7 @@ use Rattle.dd_geom.specs.declared.rect.Rect.{Rect}
 use Rattle.dd_geom.specs.declared.rect.Move.{Move}
 use Rattle.dd_pointer.specs.declared.shape.ShapeInfo.{ShapeInfo}
 use Rattle.dd_modes.specs.declared.modes.Mode.{Mode}
-use Rattle.dd_modes.specs.declared.modes.Rotation.{Rotation}
-use Rattle.dd_modes.specs.declared.modes.Rotation.TheVariants.{Unspecified, Identity, Rotate90, Rotate180, Rotate270}
+use Rattle.dd_modes.specs.Numbers.{rotation_number}
 use Rattle.dd_calls.specs.declared.answers.FrameInfo.{FrameInfo}
 use Rattle.dd_calls.specs.declared.answers.Answer.{Answer}
 use Rattle.dd_calls.specs.declared.answers.Answer.TheVariants as answer
@@ -106,19 +105,11 @@ surface_tree rows = object (member (codes "surface") (rows_tree rows) no_members
 
 -- ---- descriptions
 
--- the rotations as the API numbers them
-abbrev pub number_of : Rotation → ℕ
-number_of Unspecified = 0
-number_of Identity = 1
-number_of Rotate90 = 2
-number_of Rotate180 = 3
-number_of Rotate270 = 4
-
 unfoldable pub desc_tree : Mode → Data
 desc_tree m =
     object
     (member (codes "height") (count m.height)
-    (member (codes "rotation") (count (number_of m.rotation))
+    (member (codes "rotation") (count (rotation_number m.rotation))
     (member (codes "width") (count m.width)
     no_members)))
 

@@ -13,7 +13,8 @@ use Rattle.dd_calls.specs.declared.steps.ClientCall.TheVariants.{Duplicate, Clos
 use Rattle.dd_calls.specs.declared.steps.Step.{Step}
 use Rattle.dd_calls.specs.declared.steps.Step.TheVariants.{Draw, Call}
 use Rattle.dd_calls.specs.declared.steps.Script.{Script}
-use Rattle.dd_script_write.specs.Answers.{count, array_of, part, number_of, point_tree, rect_tree, colour_bytes, row_digits, bytes_tree}
+use Rattle.dd_modes.specs.Numbers.{rotation_number}
+use Rattle.dd_script_write.specs.Answers.{count, array_of, part, point_tree, rect_tree, colour_bytes, row_digits, bytes_tree}
 
 -- ---- drawing
 
@@ -93,7 +94,7 @@ step_tree (Call client call) =
 -- ---- the output
 
 unfoldable pub mode_tree : Mode → Data
-mode_tree m = array (item (count m.width) (item (count m.height) (item (count (number_of m.rotation)) no_items)))
+mode_tree m = array (item (count m.width) (item (count m.height) (item (count (rotation_number m.rotation)) no_items)))
 
 -- ---- the script
 

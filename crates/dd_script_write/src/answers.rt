@@ -2,7 +2,7 @@
 
 ghost use Rattle.std.specs.Prelude.{◌≡◌, IfOk};
 ghost use Rattle.serde_json.specs.View.{view};
-ghost use Rattle.dd_script_write.specs.Answers.{number_of, desc_tree, answer_tree, IsNoSurface};
+ghost use Rattle.dd_script_write.specs.Answers.{desc_tree, answer_tree, IsNoSurface};
 ghost use Rattle.dd_script_write.specs.Texts.{line};
 
 use crate::buffers::{buffer_tree, shape_buffer_tree};
@@ -13,7 +13,7 @@ use crate::refusals::{
 use crate::surfaces::surface_text;
 use crate::text::Text;
 use dd_calls::Answer;
-use dd_modes::{Mode, Rotation};
+use dd_modes::Mode;
 use serde_json::{Value, json};
 use std::alloc::{AllocError, Global};
 
@@ -71,19 +71,6 @@ fn answer_tree(alloc: Global, a: &Answer) -> Result<Value, AllocError>
 fn desc_tree(alloc: Global, mode: Mode) -> Result<Value, AllocError>
     ensures { IfOk result (λ v. view v ≡ desc_tree mode) }
 {
-    let rotation = number_of(mode.rotation);
+    let rotation = mode.rotation.number();
     json!(in alloc; {"height": mode.height, "rotation": rotation, "width": mode.width})
-}
-
-/// A rotation by the API's number.
-pub(crate) fn number_of(rotation: Rotation) -> u32
-    ensures { result ≡ number_of rotation }
-{
-    match rotation {
-        Rotation::Unspecified => 0,
-        Rotation::Identity => 1,
-        Rotation::Rotate90 => 2,
-        Rotation::Rotate180 => 3,
-        Rotation::Rotate270 => 4,
-    }
 }

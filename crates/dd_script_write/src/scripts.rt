@@ -6,7 +6,6 @@ ghost use Rattle.dd_script_write.specs.Answers.{count, array_of};
 ghost use Rattle.dd_script_write.specs.Spelling.{name_of, buffer_given, step_tree, mode_tree, spelling};
 ghost use Rattle.dd_script_write.specs.Texts.{script_line};
 
-use crate::answers::number_of;
 use crate::drawing::draw_tree;
 use crate::text::Text;
 use dd_calls::{ClientCall, Script, Step};
@@ -79,7 +78,7 @@ fn step_array(alloc: Global, steps: &[Step]) -> Result<Value, AllocError>
 fn mode_tree(alloc: Global, mode: Mode) -> Result<Value, AllocError>
     ensures { IfOk result (λ v. view v ≡ mode_tree mode) }
 {
-    let rotation = number_of(mode.rotation);
+    let rotation = mode.rotation.number();
     json!(in alloc; [mode.width, mode.height, rotation])
 }
 
