@@ -7,7 +7,7 @@ use hex::FromHexError;
 use std::alloc::{AllocError, Global};
 use std::mem;
 
-/// How many bytes the devices move in a call.
+/// How many bytes the devices move in a call, where a case says nothing of it.
 const PIECE: usize = 4096;
 
 /// Whose next line it is.
@@ -21,8 +21,8 @@ enum Part {
 /// A case, as far as its lines have come.
 ///
 /// Its lines are, in this order: `case NAME`; `word WORD` for each word of the command; `status
-/// NAME`; `fails read` or `fails write`, where that device fails its first call; `writes DIGITS` or
-/// `md5 DIGITS`, where the output or its digest is told by hexadecimal digits; then `spaces N`,
+/// NAME`; `fails read N` or `fails write N`, where that device fails its N-th call; `piece N`, where
+/// the devices move N bytes in a call, and not 4,096; `writes DIGITS` or `md5 DIGITS`, where the output or its digest is told by hexadecimal digits; then `spaces N`,
 /// `bytes DIGITS`, `times N TEXT` for each part of the input, or `input` and the input's lines; then
 /// `output` and the output's lines.
 #[derive(Debug, Drop)]
@@ -35,6 +35,8 @@ pub struct Case {
     output: Vec<u8>,
     /// The digest of the output, where that isn't told itself.
     digest: Option<Vec<u8>>,
+    /// How many bytes the devices move in a call, from 1.
+    piece: usize,
     /// The calls of the source and of the sink that fail.
     read_fails: Vec<u64>,
     write_fails: Vec<u64>,
@@ -87,6 +89,7 @@ impl Case {
             input: Vec::new(alloc),
             output: Vec::new(alloc),
             digest: None,
+            piece: PIECE,
             read_fails: Vec::new(alloc),
             write_fails: Vec::new(alloc),
             part: Part::Head,
@@ -118,8 +121,8 @@ impl Case {
             "case" => self.name = String::from_str(alloc, rest)?,
             "word" => self.words.push(String::from_str(alloc, rest)?)?,
             "status" => self.line = line_of(alloc, rest)?,
-            "fails" if rest == "read" => self.read_fails.push(1)?,
-            "fails" if rest == "write" => self.write_fails.push(1)?,
+            "fails" => self.take_fails(rest)?,
+            "piece" => self.piece = rest.parse().unwrap_or(PIECE).max(1),
             "spaces" => self.input = vec![in alloc; b' '; rest.parse().unwrap_or(0)]?,
             "bytes" => self.input = bytes_of(alloc, rest)?,
             "times" => push_times(&mut self.input, rest)?,
@@ -130,13 +133,28 @@ impl Case {
         Ok(())
     }
 
+    /// Takes in which call of which device fails; one that isn't told says nothing.
+    fn take_fails(&mut self, told: &str) -> Result<(), AllocError> {
+        let Some((device, call)) = told.split_once(' ') else {
+            return Ok(());
+        };
+        let call = call.parse().unwrap_or(1);
+        if device == "read" {
+            self.read_fails.push(call)?;
+        } else {
+            self.write_fails.push(call)?;
+        }
+        Ok(())
+    }
+
     /// Does the command, and says how it went. The input and the calls that fail are given up.
     pub fn run(&mut self, alloc: Global) -> Result<Verdict, AllocError> {
+        let piece = self.piece.max(1);
         let input = mem::replace(&mut self.input, Vec::new(alloc));
         let fails = mem::replace(&mut self.read_fails, Vec::new(alloc));
-        let mut source = MemSource::new(Bytes::from_vec(input), PIECE, Numbers::from_vec(fails));
+        let mut source = MemSource::new(Bytes::from_vec(input), piece, Numbers::from_vec(fails));
         let fails = mem::replace(&mut self.write_fails, Vec::new(alloc));
-        let mut sink = MemSink::new(alloc, PIECE, Numbers::from_vec(fails));
+        let mut sink = MemSink::new(alloc, piece, Numbers::from_vec(fails));
         let status = plain(alloc, &self.words, &mut source, &mut sink);
         Ok(match &self.digest {
             Some(digest) => judge_digest(status, &self.line, sink.bytes(), digest),

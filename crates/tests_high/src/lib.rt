@@ -6,8 +6,6 @@ mod dup;
 #[cfg(test)]
 mod log;
 #[cfg(test)]
-mod prog;
-#[cfg(test)]
 mod record;
 #[cfg(test)]
 mod script;
