@@ -24,9 +24,9 @@ build:
 	rm bin/answers.txt
 	cp crates/ddup/out/ddup bin/ddup
 	tools/run_cases bin/ddup
-	cd crates/board_speed && $(RT) run -- look 2 1000 > ../../bin/line.txt
-	cmp bin/line.txt crates/board_speed/stdout
-	rm bin/line.txt
+	cd crates/board_speed && $(RT) run -- check 5 100 > ../../bin/lines.txt
+	cmp bin/lines.txt crates/board_speed/stdout
+	rm bin/lines.txt
 	cp crates/board_speed/out/board_speed bin/board_speed
 
 # Proves from nothing each crate that it hasn't passed on this machine, tries the wrong bodies, and runs the tests and the programs.
