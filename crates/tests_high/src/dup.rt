@@ -29,7 +29,7 @@ const POINT: Rect = Rect {
     bottom: 1,
 };
 
-const PRESENTS: u32 = 400_000;
+const PRESENTS: u32 = 200_000;
 
 /// A step of the one client.
 fn step_of(call: ClientCall) -> Step
@@ -107,6 +107,6 @@ fn long_list(rt: HostRuntime) -> Result<(), Fail> {
         assert_eq!(rt; presents, 1);
     }
     let folded = station.dup(1).map(|dup| dup.folded());
-    assert_eq!(rt; folded, Some(400_001));
+    assert_eq!(rt; folded, Some(200_001));
     Ok(())
 }
