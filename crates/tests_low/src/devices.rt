@@ -1,6 +1,6 @@
 //! Devices that fail, that are interrupted, and that move short pieces.
 
-ghost use Rattle.std.specs.Prelude.{◌≤◌};
+ghost use Rattle.std.specs.Prelude.{◌≤◌, IfOk};
 
 use dd_io::{
     Bytes, Failed, MemSink, MemSource, Numbers, OutOfMemory, ReadUpFault, Sink, Source, StdSink,
@@ -100,7 +100,9 @@ impl Device {
     }
 
     /// How many bytes of a piece the next call moves.
-    fn next(&mut self, length: usize) -> io::Result<usize> {
+    fn next(&mut self, length: usize) -> io::Result<usize>
+        ensures { IfOk result (λ n. n ≤ length) }
+    {
         if self.interruptions > 0 {
             self.interruptions -= 1;
             return Err(Error::from(ErrorKind::Interrupted));
