@@ -5,6 +5,7 @@ use Rattle.dd_geom.specs.Bytes.{rect_bytes, rect_of}
 use Rattle.dd_bits.specs.CanonicalList.{run_end, same_rows, canonical_list}
 use Rattle.dd_modes.specs.declared.modes.Mode.{Mode}
 use Rattle.dd_modes.specs.declared.modes.Rotation.TheVariants.{Identity}
+use Rattle.dd_modes.specs.Numbers.{rotation_numbered}
 use Rattle.dd_record.specs.declared.chunk.Chunk.TheVariants.{Opening, Frame}
 use Rattle.dd_record.specs.declared.chunk.FrameChunk.{FrameChunk}
 use Rattle.dd_record.specs.declared.layout.TheConstants.{END_BYTES, OPENING_BYTES, FRAME_HEAD_BYTES, PIXEL_BYTES, SHAPE_HEAD_BYTES}
@@ -39,7 +40,7 @@ unfolding opening_bytes
 opening_written = refl
 
 opening_read : chunk_of None opening ≡ Good (record { chunk = Opening two_points; used = 13 })
-unfolding chunk_of opening_of mode_of width_of height_of come kept
+unfolding chunk_of opening_of mode_of rotation_numbered width_of height_of come kept
 opening_read = refl
 
 abbrev pub red : FrameChunk

@@ -109,12 +109,12 @@ module _ (bytes : List ℕ) where
   coordinate_come : (at : ℕ) → Came (coordinate at bytes)
   coordinate_come at = made_come at 4 (λ field. coordinate_at field 0)
 
-  rotation_come : (x : ℕ) → 9 ≤ length bytes → Came (rotation_of x)
-  rotation_come x within = turn_come (rotation_numbered x) within
-
   turn_come : (turn : Option Rotation) → 9 ≤ length bytes → Came (rotation_or_bad turn)
   turn_come (Some r) within = tt
   turn_come None within = within
+
+  rotation_come : (x : ℕ) → 9 ≤ length bytes → Came (rotation_of x)
+  rotation_come x within = turn_come (rotation_numbered x) within
 
   mode_come : Came (mode_of bytes)
   unfolding mode_of width_of height_of

@@ -9,6 +9,7 @@ use Rattle.dd_log.specs.Desk.{unset}
 use Rattle.dd_record.specs.declared.fault.RecordFault.TheVariants.{BadField, Truncated}
 use Rattle.dd_record.specs.Reading.{come, kept}
 use Rattle.dd_record.specs.Dirt.{is_canonical}
+use Rattle.dd_modes.specs.Numbers.{rotation_numbered}
 use Rattle.dd_record.specs.Grammar.{width_of, height_of, mode_of, opening_of, last_present_of, last_mouse_of, accumulated_of, coalesced_of, protected_of, pointer_of, meta_of, shape_size_of, move_count_of, rect_count_of, info_of, head_of, rect_at, dirt_of, pixel_at, new_shape_of, frame_chunk_of, frame_of, chunk_of}
 use Rattle.dd_record.specs.Writing.{magic}
 use Rattle.dd_view.specs.declared.stage.Stage.TheVariants.{Ended}
@@ -46,7 +47,7 @@ at_end =
     }
 
 read_whole : reader_of 1 whole ≡ at_end
-unfolding read_on begun_next magic chunk_of opening_of mode_of width_of height_of frame_of frame_chunk_of
+unfolding read_on begun_next magic chunk_of opening_of mode_of rotation_numbered width_of height_of frame_of frame_chunk_of
     head_of info_of last_present_of last_mouse_of accumulated_of coalesced_of protected_of pointer_of meta_of
     shape_size_of move_count_of rect_count_of dirt_of rect_at rect_of is_canonical canonical_list same_rows
     run_end pixel_at new_shape_of come kept
@@ -54,21 +55,21 @@ read_whole = refl
 
 -- the frame chunk stands at byte 17
 kept_of_75 : length (reader_of 1 (take 75 whole)).rest ≡ 58
-unfolding read_on begun_next magic chunk_of opening_of mode_of width_of height_of frame_of frame_chunk_of
+unfolding read_on begun_next magic chunk_of opening_of mode_of rotation_numbered width_of height_of frame_of frame_chunk_of
     head_of info_of last_present_of last_mouse_of accumulated_of coalesced_of protected_of pointer_of meta_of
     shape_size_of move_count_of rect_count_of dirt_of rect_at rect_of is_canonical canonical_list same_rows
     run_end pixel_at new_shape_of come kept
 kept_of_75 = refl
 
 cut_off : finish_answer (reader_of 1 (take 77 whole)) ≡ Err (Truncated 77)
-unfolding read_on begun_next magic chunk_of opening_of mode_of width_of height_of frame_of frame_chunk_of
+unfolding read_on begun_next magic chunk_of opening_of mode_of rotation_numbered width_of height_of frame_of frame_chunk_of
     head_of info_of last_present_of last_mouse_of accumulated_of coalesced_of protected_of pointer_of meta_of
     shape_size_of move_count_of rect_count_of dirt_of rect_at rect_of is_canonical canonical_list same_rows
     run_end pixel_at new_shape_of come kept
 cut_off = refl
 
 byte_behind : feed_answer (reader_of 1 (whole ++ 7 ∷ [])) ≡ Err (BadField 80)
-unfolding read_on begun_next magic chunk_of opening_of mode_of width_of height_of frame_of frame_chunk_of
+unfolding read_on begun_next magic chunk_of opening_of mode_of rotation_numbered width_of height_of frame_of frame_chunk_of
     head_of info_of last_present_of last_mouse_of accumulated_of coalesced_of protected_of pointer_of meta_of
     shape_size_of move_count_of rect_count_of dirt_of rect_at rect_of is_canonical canonical_list same_rows
     run_end pixel_at new_shape_of come kept
