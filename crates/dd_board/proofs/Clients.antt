@@ -1,5 +1,6 @@
 -- What a client's opening and closing leave.
 use Rattle.std.proofs.Common.{◌≡◌, ℕ, ◌+◌, List, [], ◌∷◌, length, take, drop, Option, Some, None, Result, Ok, Err, refl, sym, ap, ◌∙◌, subst, arith, length-append}
+use Rattle.std.specs.Prelude.{IsOk}
 use mathlib.Core.List.{IsPrefix}
 use Rattle.std.proofs.lemmas.List.{take-append-drop, length-take-le}
 use Rattle.dd_calls.specs.declared.answers.Answer.{Answer}
@@ -10,14 +11,17 @@ use Rattle.dd_log.specs.declared.events.Spec.{Spec}
 use Rattle.dd_log.specs.declared.events.Entry.{Entry}
 use Rattle.dd_log.specs.History.{History}
 use Rattle.dd_table.specs.Opening.{opening, closing}
+use Rattle.dd_dup.specs.Reply.{slot_of}
+use Rattle.dd_dup.specs.Stands.{memory}
 use Rattle.dd_board.specs.declared.holding.Holding.{Holding}
 use Rattle.dd_board.specs.declared.painter.Attempt.TheVariants.{Done}
 use Rattle.dd_board.specs.Lists.{listed, at_place}
 use Rattle.dd_board.specs.Seats.{Seated, IsCall}
-use Rattle.dd_board.specs.Clients.{ClientState, memory}
+use Rattle.dd_board.specs.Clients.{ClientState}
 use Rattle.dd_board.specs.Holding.{held_dup, client_state, MayHold}
 use Rattle.dd_board.specs.Opening.{IsOpening, IsClosing, slot_in, IsFresh, opened_answer, held_after, closed_answer, held_closed, held_slot}
-use Rattle.dd_board.specs.Openings.{opening_entry, opening_answer, opening_memory, closing_entry, closing_answer, closing_dup, slot_of}
+use Rattle.dd_board.specs.Openings.{opening_entry, opening_answer, opening_memory, closing_entry, closing_answer, closing_dup}
+use Rattle.dd_board.specs.Wanting.{MayGrant}
 use Rattle.dd_board.proofs.Prefixes.{prefix_trans}
 use Rattle.dd_board.proofs.Standing.{slot_kept, may_hold_later}
 
@@ -97,6 +101,14 @@ duplicated spec s actor new app step held later door place number r answer told 
     (subst (λ (x : List Entry). Duplicated spec (client_state actor app held door) new later place step answer x)
     (sym t) (duplicated_here spec actor new app step held later door place number r answer m h n a l))
 
+-- an opening that wanted memory
+pub opening_wants : (spec : Spec) (seats : ℕ) (s : ClientState) (actor : Seated) (app step : ℕ) (held : Option Holding)
+    (door : Option ℕ) → client_state actor app held door ≡ s
+    → MayGrant spec seats actor step (λ h. IsOk (opening h app))
+    → MayGrant spec seats s.actor step (λ h. IsOk (opening h s.app))
+opening_wants spec seats s actor app step held door is w =
+    subst (λ (x : ClientState). MayGrant spec seats x.actor step (λ h. IsOk (opening h x.app))) is w
+
 -- ---- a closing
 
 pub record ClosedBy (spec : Spec) (s : ClientState) (new : Seated) (later : Option Holding) (place step : ℕ)
@@ -104,16 +116,16 @@ pub record ClosedBy (spec : Spec) (s : ClientState) (new : Seated) (later : Opti
   pub holds : MayHold later (listed spec new.view)
   pub answered :
       answer
-      ≡ closing_answer (closing (at_place spec told place) (slot_of s.dup (at_place spec told place))) place
+      ≡ closing_answer (closing (at_place spec told place) (slot_of (memory s.dup) (at_place spec told place))) place
   pub call : IsCall s.actor new place
-      (closing_entry (closing (at_place spec told place) (slot_of s.dup (at_place spec told place)))
+      (closing_entry (closing (at_place spec told place) (slot_of (memory s.dup) (at_place spec told place)))
       s.actor.number step)
   pub dup :
       held_dup later
-      ≡ closing_dup (closing (at_place spec told place) (slot_of s.dup (at_place spec told place))) s.dup
+      ≡ closing_dup (closing (at_place spec told place) (slot_of (memory s.dup) (at_place spec told place))) s.dup
 
 slot_is : (o : Option Holding) (spec : Spec) (xs ys : List Entry) → IsPrefix xs ys → MayHold o (listed spec xs)
-    → held_slot o ≡ slot_of (held_dup o) (listed spec ys)
+    → held_slot o ≡ slot_of (memory (held_dup o)) (listed spec ys)
 slot_is None spec xs ys p m = refl
 slot_is (Some x) spec xs ys p m = sym (slot_kept xs ys x.dup.memory.opened x.slot p m.1)
 
@@ -140,7 +152,7 @@ closed_here : (spec : Spec) (actor new : Seated) (app step : ℕ) (held later : 
     → ClosedBy spec (client_state actor app held door) new later place step answer new.view
 closed_here spec actor new app step held later door place number r answer m h n a l =
     let before : History = at_place spec new.view place in
-    let told : r ≡ closing before (slot_of (held_dup held) before) =
+    let told : r ≡ closing before (slot_of (memory (held_dup held)) before) =
     h.0 ∙ ap (closing before) (slot_is held spec actor.view (take place new.view) h.1.begins m) in
     record {
       holds =
@@ -167,3 +179,29 @@ closed_by spec s actor new app step held later door place number r answer told a
     subst (λ (x : ClientState). ClosedBy spec x new later place step answer told) is
     (subst (λ (x : List Entry). ClosedBy spec (client_state actor app held door) new later place step answer x)
     (sym t) (closed_here spec actor new app step held later door place number r answer m own n a l))
+
+-- a closing that wanted memory, on a list that the client's slot is asked of
+closing_wants_here : (spec : Spec) (seats : ℕ) (actor : Seated) (step : ℕ) (held : Option Holding)
+    → MayHold held (listed spec actor.view)
+    → MayGrant spec seats actor step (λ h. IsOk (closing h (held_slot held)))
+    → MayGrant spec seats actor step (λ h. IsOk (closing h (slot_of (memory (held_dup held)) h)))
+closing_wants_here spec seats actor step held m w =
+    record {
+      entries = w.entries;
+      legal = w.legal;
+      seated = w.seated;
+      fits = w.fits;
+      granted =
+          subst (λ (o : Option ℕ). IsOk (closing (listed spec w.entries) o))
+          (slot_is held spec actor.view w.entries w.fits.0 m) w.granted;
+    }
+
+pub closing_wants : (spec : Spec) (seats : ℕ) (s : ClientState) (actor : Seated) (app step : ℕ) (held : Option Holding)
+    (door : Option ℕ) (asked : Option ℕ) → client_state actor app held door ≡ s
+    → MayHold held (listed spec actor.view) → asked ≡ held_slot held
+    → MayGrant spec seats actor step (λ h. IsOk (closing h asked))
+    → MayGrant spec seats s.actor step (λ h. IsOk (closing h (slot_of (memory s.dup) h)))
+closing_wants spec seats s actor app step held door asked is m q w =
+    let own = subst (λ (o : Option ℕ). MayGrant spec seats actor step (λ h. IsOk (closing h o))) q w in
+    subst (λ (x : ClientState). MayGrant spec seats x.actor step (λ h. IsOk (closing h (slot_of (memory x.dup) h)))) is
+    (closing_wants_here spec seats actor step held m own)

@@ -6,6 +6,8 @@ pub mod Painting
 pub mod Calls
 pub mod Standing
 pub mod Openings
+pub mod Wanting
+pub mod Limits
 pub mod Clients
 pub mod Boards
 pub mod Endings

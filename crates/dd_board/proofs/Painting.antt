@@ -1,16 +1,17 @@
 -- What was printed, where it is known which way it went.
-use Rattle.std.proofs.Common.{◌≡◌, ℕ, List, [], ◌∷◌, ◌++◌, length, sym, subst, Result, Ok, Err}
+use Rattle.std.proofs.Common.{◌≡◌, ◌∙◌, ℕ, List, [], ◌∷◌, ◌++◌, length, ap, sym, subst, Result, Ok, Err}
 use mathlib.Core.List.{IsPrefix}
 use Rattle.dd_log.specs.declared.refusal.LogRefusal.{LogRefusal}
 use Rattle.dd_log.specs.declared.events.Spec.{Spec}
 use Rattle.dd_log.specs.declared.events.Entry.{Entry}
 use Rattle.dd_log.specs.History.{refusal, verdict}
 use Rattle.dd_board.specs.declared.painter.Entering.{Entering}
+use Rattle.dd_board.specs.declared.painter.Entering.TheVariants.{Made, Late, NoMemory}
 use Rattle.dd_board.specs.declared.painter.Attempt.{Attempt}
 use Rattle.dd_board.specs.declared.painter.Attempt.TheVariants.{Done}
 use Rattle.dd_board.specs.Lists.{listed}
 use Rattle.dd_board.specs.Seats.{Seated, seeing, entering}
-use Rattle.dd_board.specs.Painting.{IsEntering, IsDrawing}
+use Rattle.dd_board.specs.Painting.{IsEntering, IsDrawing, attempt_of}
 use Rattle.dd_board.proofs.Calls.{made_call, refused_call, answer_made, answer_refused}
 use Rattle.dd_board.specs.declared.press.Printed.{Printed}
 use Rattle.dd_board.specs.Press.{IsPrinted}
@@ -42,3 +43,12 @@ not_drawn spec old new es e place cause begins is new_is told = (
   refused_call old new es place begins is new_is,
   answer_refused spec old new es e place (Err cause) is new_is told,
 )
+
+-- however its entry went
+pub drawing_went : (went : Entering) (spec : Spec) (old new : Seated) (es later : List Entry) (e : Entry) (place : ℕ)
+    → IsPrefix old.view es → place ≡ length es → IsEntering went es later old new e
+    → Ok tt ≡ verdict (refusal (listed spec es) e.event) → IsDrawing (attempt_of went place (Ok tt)) spec old new e
+drawing_went Made spec old new es later e place begins is went told =
+    drawn spec old new es e place begins is (went.1 ∙ ap (entering old) went.0) told
+drawing_went Late spec old new es later e place begins is went told = went.1
+drawing_went NoMemory spec old new es later e place begins is went told = went.1

@@ -10,12 +10,12 @@ use Rattle.dd_log.specs.History.{History, Begins}
 use Rattle.dd_log.specs.Slots.{entry_slot}
 use Rattle.dd_dup.specs.declared.frame.Frame.{Frame}
 use Rattle.dd_dup.specs.Reply.{Memory, is_lost, lost_memory, memory_after, acquire_reply, acquire_memory}
+use Rattle.dd_dup.specs.Stands.{MayStand}
 use Rattle.dd_dup.proofs.Frames.{stands_later}
 use Rattle.dd_board.specs.declared.holding.Holding.{Holding}
 use Rattle.dd_board.specs.declared.looking.LookAnswer.{LookAnswer}
 use Rattle.dd_board.specs.declared.looking.LookAnswer.TheVariants as looks
 use Rattle.dd_board.specs.Lists.{listed}
-use Rattle.dd_board.specs.Clients.{MayStand}
 use Rattle.dd_board.specs.Holding.{held_dup, MayHold}
 use Rattle.dd_board.specs.Looking.{IsAcquired}
 use Rattle.dd_board.proofs.Prefixes.{prefix_length, prefix_take}

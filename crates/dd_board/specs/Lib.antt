@@ -13,6 +13,7 @@ pub mod Openings
 pub mod Looked
 pub mod Boards
 pub mod Unnamed
+pub mod Wanting
 pub mod Ending
 pub mod Listing
 pub mod Copied

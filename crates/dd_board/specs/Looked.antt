@@ -4,7 +4,8 @@ use Rattle.dd_log.specs.History.{History}
 use Rattle.dd_board.specs.declared.looking.Call.{Call}
 use Rattle.dd_board.specs.declared.looking.LookAnswer.{LookAnswer}
 use Rattle.dd_board.specs.declared.looking.LookAnswer.TheVariants.{NotEntered}
-use Rattle.dd_board.specs.Clients.{ClientState, memory}
+use Rattle.dd_dup.specs.Stands.{memory}
+use Rattle.dd_board.specs.Clients.{ClientState}
 use Rattle.dd_board.specs.Looking.{IsLook, one_refused}
 
 -- The list answers, and no refusal is counted. Or the look wasn't let in, which is counted, and nothing else changed.

@@ -15,7 +15,7 @@ use Rattle.dd_board.specs.Holding.{MayHold}
 use Rattle.dd_board.specs.Openings.{opening_entry, closing_entry}
 use Rattle.dd_board.specs.declared.holding.Holding.{Holding}
 use Rattle.dd_board.specs.declared.painter.Attempt.{Attempt}
-use Rattle.dd_board.specs.declared.painter.Attempt.TheVariants.{Done, Late, NoMemory}
+use Rattle.dd_board.specs.declared.painter.Attempt.TheVariants.{Done, Unfit, Late, NoMemory}
 
 -- the slot of what was opened
 abbrev pub slot_in : Result Holding OpenRefusal → Result ℕ OpenRefusal
@@ -33,6 +33,7 @@ IsOpening (Done place answer) spec old new app step =
     (slot_in answer ≡ opening (listed spec (take place new.view)) app)
     × IsCall old new place (opening_entry (slot_in answer) old.number step app)
     × IsFresh answer (listed spec (take place new.view)) place (listed spec new.view)
+IsOpening Unfit spec old new app step = new ≡ old
 IsOpening Late spec old new app step = new ≡ old
 IsOpening NoMemory spec old new app step = new ≡ old
 
@@ -41,6 +42,7 @@ abbrev pub IsClosing : Attempt (Result ℕ CloseRefusal) → Spec → Seated →
 IsClosing (Done place answer) spec old new slot step =
     (answer ≡ closing (listed spec (take place new.view)) slot)
     × IsCall old new place (closing_entry answer old.number step)
+IsClosing Unfit spec old new slot step = new ≡ old
 IsClosing Late spec old new slot step = new ≡ old
 IsClosing NoMemory spec old new slot step = new ≡ old
 

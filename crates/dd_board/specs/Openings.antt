@@ -7,7 +7,6 @@ use Rattle.dd_calls.specs.declared.answers.Answer.TheVariants.{Opened, NotOpened
 use Rattle.dd_calls.specs.declared.answers.OpenRefusal.{OpenRefusal}
 use Rattle.dd_calls.specs.declared.answers.CloseRefusal.{CloseRefusal}
 use Rattle.dd_log.specs.History.{History}
-use Rattle.dd_log.specs.Slots.{slot_at}
 use Rattle.dd_dup.specs.Reply.{Memory, fresh_memory}
 use Rattle.dd_dup.specs.Duplicator.{Duplicator}
 
@@ -25,11 +24,6 @@ opening_answer (Err cause) place = NotOpened cause
 abbrev pub opening_memory : Result ℕ OpenRefusal → Option Memory → History → ℕ → Option Memory
 opening_memory (Ok slot) old h place = Some (fresh_memory h place)
 opening_memory (Err cause) old h place = old
-
--- the slot of a client's duplicator, where it has one: that of its opening
-abbrev pub slot_of : Option Duplicator → History → Option ℕ
-slot_of None h = None
-slot_of (Some d) h = slot_at h d.memory.opened
 
 -- the entry of a closing that is granted
 abbrev pub closing_entry : Result ℕ CloseRefusal → ℕ → ℕ → Option Entry

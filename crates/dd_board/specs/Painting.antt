@@ -10,7 +10,7 @@ use Rattle.dd_board.specs.Seats.{Seated, entering, entry_if, IsCall}
 use Rattle.dd_board.specs.declared.painter.Entering.{Entering}
 use Rattle.dd_board.specs.declared.painter.Entering.TheVariants as enterings
 use Rattle.dd_board.specs.declared.painter.Attempt.{Attempt}
-use Rattle.dd_board.specs.declared.painter.Attempt.TheVariants.{Done, Late, NoMemory}
+use Rattle.dd_board.specs.declared.painter.Attempt.TheVariants.{Done, Unfit, Late, NoMemory}
 
 -- an entry of a seat is the list's last, and the seat has seen it; or nothing changed
 abbrev pub IsEntering : Entering → List Entry → List Entry → Seated → Seated → Entry → Type 0
@@ -23,6 +23,7 @@ abbrev pub IsDrawing : Attempt (Result (Unit {0}) LogRefusal) → Spec → Seate
 IsDrawing (Done place answer) spec old new e =
     IsCall old new place (entry_if answer e)
     × (answer ≡ verdict (refusal (listed spec (take place new.view)) e.event))
+IsDrawing Unfit spec old new e = new ≡ old
 IsDrawing Late spec old new e = new ≡ old
 IsDrawing NoMemory spec old new e = new ≡ old
 

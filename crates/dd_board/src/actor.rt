@@ -63,7 +63,7 @@ impl<L: Named> Actor<L> {
 
     /// How many entries it made.
     pub fn made(&self) -> u64
-        ensures { result ≡ self.now.made }
+        ensures made { result ≡ self.now.made }
     {
         self.made
     }

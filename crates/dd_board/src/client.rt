@@ -1,19 +1,21 @@
 //! A client: an actor with a door to the board, and its duplicator where it has one.
 
-ghost use Rattle.std.specs.Prelude.{◌≡◌, ◌<◌, ◌≤◌, length, option_map, IfOk, OnErr, IsTrue};
+ghost use Rattle.std.specs.Prelude.{◌≡◌, ◌<◌, ◌≤◌, length, option_map, IfOk, OnErr, IsOk, IsTrue};
 ghost use mathlib.Core.List.{IsPrefix};
 ghost use Rattle.dd_log.specs.declared.events.TheConstants.{MAX_CAPACITY};
 ghost use Rattle.dd_log.specs.History.{legal};
 ghost use Rattle.dd_table.specs.Opening.{opening, closing};
 ghost use Rattle.dd_board.specs.Lists.{listed, at_place, all_seated, longer};
 ghost use Rattle.dd_board.specs.Seats.{seeing, IsCall};
-ghost use Rattle.dd_board.specs.Clients.{memory, MayStand};
+ghost use Rattle.dd_dup.specs.Reply.{slot_of};
+ghost use Rattle.dd_dup.specs.Stands.{memory, MayStand};
 ghost use Rattle.dd_board.specs.Holding.{held_dup, MayHold};
 ghost use Rattle.dd_board.specs.Opening.{opened_answer, held_after, closed_answer, held_closed, held_slot};
 ghost use Rattle.dd_board.specs.Asking.{dup_info, look_answer};
 ghost use Rattle.dd_board.specs.Looking.{IsLook};
 ghost use Rattle.dd_board.specs.Looked.{IsLooked};
-ghost use Rattle.dd_board.specs.Openings.{opening_entry, opening_answer, opening_memory, closing_entry, closing_answer, closing_dup, slot_of};
+ghost use Rattle.dd_board.specs.Wanting.{MayGrant};
+ghost use Rattle.dd_board.specs.Openings.{opening_entry, opening_answer, opening_memory, closing_entry, closing_answer, closing_dup};
 
 use crate::actor::Actor;
 use crate::door::Door;
@@ -183,7 +185,7 @@ impl<L: Named> Client<L> {
 
     /// How many entries it made.
     pub fn made(&self) -> u64
-        ensures { result ≡ self.now.actor.made }
+        ensures made { result ≡ self.now.actor.made }
     {
         self.actor.made()
     }
@@ -201,7 +203,7 @@ impl<L: Named> Client<L> {
 
     /// How often its looks weren't let in, which is at most 2^64 - 1.
     pub fn refusals(&self) -> u64
-        ensures { result ≡ self.now.refusals }
+        ensures refusals { result ≡ self.now.refusals }
     {
         match &self.door {
             None => 0,
@@ -276,8 +278,8 @@ impl<L: Named> Client<L> {
     /// Opens a duplicator, or says why not: the list at the place answers, which begins with all
     /// that the client saw or was told, and which the opening is added to where it is accepted.
     ///
-    /// At an error there was no memory, and no entry was made. It waits for as long as the list has
-    /// a step of this actor that isn't below this one.
+    /// At an error there was no memory for an opening that the list granted, and no entry was made.
+    /// It waits for as long as the list has a step of this actor that isn't below this one.
     pub fn duplicate<R: Wait>(
         &mut self,
         rt: &R,
@@ -298,6 +300,8 @@ impl<L: Named> Client<L> {
         ensures app { self.new.app ≡ self.old.app }
         ensures refusals { self.new.refusals ≡ self.old.refusals }
         ensures err { OnErr result (self.new ≡ self.old) }
+        ensures wants { OnErr result (MayGrant L.spec L.parts self.old.actor step
+            (λ h. IsOk (opening h self.old.app))) }
         ensures stands { MayStand self.new.dup (listed L.spec self.new.actor.view) }
     {
         let (place, answer) = screen.open(rt, alloc, &mut self.actor, self.app, step)?;
@@ -319,17 +323,19 @@ impl<L: Named> Client<L> {
     ) -> Result<Tried<L>, AllocError>
         ensures answer { IfOk result (λ t. t.answer
             ≡ closing_answer (closing (at_place L.spec t.told t.place)
-            (slot_of self.old.dup (at_place L.spec t.told t.place))) t.place) }
+            (slot_of (memory self.old.dup) (at_place L.spec t.told t.place))) t.place) }
         ensures call { IfOk result (λ t. IsCall self.old.actor self.new.actor t.place
             (closing_entry (closing (at_place L.spec t.told t.place)
-            (slot_of self.old.dup (at_place L.spec t.told t.place))) self.old.actor.number step)) }
+            (slot_of (memory self.old.dup) (at_place L.spec t.told t.place))) self.old.actor.number step)) }
         ensures dup { IfOk result (λ t. self.new.dup
             ≡ closing_dup (closing (at_place L.spec t.told t.place)
-            (slot_of self.old.dup (at_place L.spec t.told t.place))) self.old.dup) }
+            (slot_of (memory self.old.dup) (at_place L.spec t.told t.place))) self.old.dup) }
         ensures told { IfOk result (λ t. t.told ≡ self.new.actor.view) }
         ensures app { self.new.app ≡ self.old.app }
         ensures refusals { self.new.refusals ≡ self.old.refusals }
         ensures err { OnErr result (self.new ≡ self.old) }
+        ensures wants { OnErr result (MayGrant L.spec L.parts self.old.actor step
+            (λ h. IsOk (closing h (slot_of (memory self.old.dup) h)))) }
         ensures stands { MayStand self.new.dup (listed L.spec self.new.actor.view) }
     {
         let slot = slot_held(&self.held);

@@ -1,11 +1,12 @@
 //! Who alone makes the list longer: the press, and the ledger of what the seats made.
 
-ghost use Rattle.std.specs.Prelude.{◌≡◌, ◌≤◌, ◌<◌, ℕ, true, false, List, Option, IsTrue};
+ghost use Rattle.std.specs.Prelude.{◌≡◌, ◌↔◌, ◌<◌, ℕ, None, true, false, List, Option, IsTrue};
 ghost use mathlib.Core.List.{IsPrefix};
 ghost use Rattle.dd_log.specs.Desk.{finds_slot};
 ghost use Rattle.dd_log.specs.History.{desk, is_end, last_step, refusal};
 ghost use Rattle.dd_board.specs.Lists.{listed};
-ghost use Rattle.dd_board.specs.Painting.{IsEntering, IsDrawing};
+ghost use Rattle.dd_board.specs.Painting.{IsEntering, IsDrawing, attempt_of as went};
+ghost use Rattle.dd_board.specs.Wanting.{Fits, MayGrant, OnUnfit, OnWant};
 
 use crate::actor::Actor;
 use crate::named::Named;
@@ -56,8 +57,21 @@ pub(crate) enum Attempt<A> {
     /// It was answered by the list at this place.
     Done { place: u64, answer: A },
     /// The list didn't fit the seat. In truth it always does.
+    Unfit,
+    /// The list was longer already. In truth it never is.
     Late,
     NoMemory,
+}
+
+/// How a call went, once the list fitted it.
+pub(crate) fn attempt_of<A: Drop>(entering: Entering, place: u64, answer: A) -> Attempt<A>
+    ensures { result ≡ went entering place answer }
+{
+    match entering {
+        Entering::Made => Attempt::Done { place, answer },
+        Entering::Late => Attempt::Late,
+        Entering::NoMemory => Attempt::NoMemory,
+    }
 }
 
 impl<L: Named> Painter<L> {
@@ -77,8 +91,7 @@ impl<L: Named> Painter<L> {
 
     /// Whether the list begins with a seat's view, and a step of the seat is past its last one.
     pub(crate) fn fits(&self, actor: &Actor<L>, step: u32) -> bool
-        ensures begins { IsTrue result → IsPrefix actor.now.view self.now }
-        ensures step { IsTrue result → last_step self.now actor.now.number < step }
+        ensures { IsTrue result ↔ Fits self.now actor.now step }
     {
         self.told().covers(actor.view()) && self.log().last_step(actor.number()) < step
     }
@@ -122,10 +135,13 @@ impl<L: Named> Painter<L> {
         requires actor { entry.now.actor ≡ actor.old.number }
         requires kind { is_end entry.now.event ≡ false }
         requires slot { (slots : List (Option ℕ)) → finds_slot slots entry.now.event ≡ true }
-        ensures { IsDrawing result.1 L.spec actor.old actor.new entry.now }
+        ensures drawing { IsDrawing result.1 L.spec actor.old actor.new entry.now }
+        ensures unfit { OnUnfit result.1 (Fits self actor.old entry.now.step → ⊥) }
+        ensures wants { OnWant result.1 (MayGrant L.spec L.parts actor.old entry.now.step
+            (λ h. refusal h entry.now.event ≡ None)) }
     {
         if !self.fits(actor, entry.step) {
-            return (self, Attempt::Late);
+            return (self, Attempt::Unfit);
         }
         let place = self.told().front();
         if let Err(cause) = self.log().allows(&entry.event) {
@@ -139,14 +155,6 @@ impl<L: Named> Painter<L> {
             );
         }
         let (painter, entering) = self.enter(rt, actor, entry);
-        let attempt = match entering {
-            Entering::Made => Attempt::Done {
-                place,
-                answer: Ok(()),
-            },
-            Entering::Late => Attempt::Late,
-            Entering::NoMemory => Attempt::NoMemory,
-        };
-        (painter, attempt)
+        (painter, attempt_of(entering, place, Ok(())))
     }
 }

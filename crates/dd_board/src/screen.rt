@@ -1,9 +1,9 @@
 //! The screen: the painter behind its lock.
 
-ghost use Rattle.std.specs.Prelude.{◌≡◌, ◌≤◌, ℕ, None, true, false, length, take, List, Option, IfOk, OnErr, is_ok};
+ghost use Rattle.std.specs.Prelude.{◌≡◌, ◌≤◌, ℕ, None, true, false, length, take, List, Option, IfOk, OnErr, IsOk, is_ok};
 ghost use Rattle.std.specs.Sync.Mutex.{mutex_guard_value};
 ghost use Rattle.dd_log.specs.Desk.{finds_slot};
-ghost use Rattle.dd_log.specs.History.{is_end, before_end};
+ghost use Rattle.dd_log.specs.History.{allowed, is_end, before_end, refusal};
 ghost use Rattle.dd_board.specs.Ending.{HasEnded};
 ghost use Rattle.dd_board.specs.Lists.{listed};
 ghost use Rattle.dd_board.specs.Listing.{made_by, EachBegins};
@@ -11,6 +11,8 @@ ghost use Rattle.dd_board.specs.Drawing.{drawing_of, drawing_answer};
 ghost use Rattle.dd_board.specs.Opening.{IsOpened, IsClosed};
 ghost use Rattle.dd_board.specs.Painting.{IsDrawn};
 ghost use Rattle.dd_board.specs.Seats.{entry_if, IsCall};
+ghost use Rattle.dd_board.specs.Wanting.{MayGrant};
+ghost use Rattle.dd_table.specs.Opening.{opening, closing};
 
 use crate::actor::Actor;
 use crate::board::Seat;
@@ -107,7 +109,9 @@ impl<L: Named> Screen<L> {
         requires actor { entry.now.actor ≡ actor.old.number }
         requires kind { is_end entry.now.event ≡ false }
         requires slot { (slots : List (Option ℕ)) → finds_slot slots entry.now.event ≡ true }
-        ensures { IsDrawn result L.spec actor.old actor.new entry.now }
+        ensures drawn { IsDrawn result L.spec actor.old actor.new entry.now }
+        ensures wants { OnErr result (MayGrant L.spec L.parts actor.old entry.now.step
+            (λ h. refusal h entry.now.event ≡ None)) }
     {
         for _ in rt.forever() {
             let (guard, painter) = self.take(rt);
@@ -116,7 +120,7 @@ impl<L: Named> Screen<L> {
             match attempt {
                 Attempt::Done { place, answer } => return Ok((place, answer)),
                 Attempt::NoMemory => return Err(AllocError),
-                Attempt::Late => {}
+                Attempt::Unfit | Attempt::Late => {}
             }
         }
         unreachable!()
@@ -125,8 +129,8 @@ impl<L: Named> Screen<L> {
     /// Draws, or says why not: the list at the place answers, which begins with all that the actor
     /// saw or was told, and which the drawing is added to where it is accepted.
     ///
-    /// At an error there was no memory, and no entry was made. It waits for as long as the list has
-    /// a step of this actor that isn't below this one.
+    /// At an error there was no memory for a drawing that the list allowed, and no entry was made.
+    /// It waits for as long as the list has a step of this actor that isn't below this one.
     pub fn draw<R: Wait>(
         &self,
         rt: &R,
@@ -140,6 +144,8 @@ impl<L: Named> Screen<L> {
             (entry_if d.answer (drawing_of actor.old.number step drawing))) }
         ensures told { IfOk result (λ d. d.told ≡ actor.new.view) }
         ensures err { OnErr result (actor.new ≡ actor.old) }
+        ensures wants { OnErr result (MayGrant L.spec L.parts actor.old step
+            (λ h. allowed h drawing ≡ None)) }
     {
         let entry = Entry {
             actor: actor.number(),
@@ -163,7 +169,9 @@ impl<L: Named> Screen<L> {
         app: u32,
         step: u32,
     ) -> Result<(u64, Result<Holding, OpenRefusal>), AllocError>
-        ensures { IsOpened result L.spec actor.old actor.new app step }
+        ensures opened { IsOpened result L.spec actor.old actor.new app step }
+        ensures wants { OnErr result (MayGrant L.spec L.parts actor.old step
+            (λ h. IsOk (opening h app))) }
     {
         for _ in rt.forever() {
             let (guard, painter) = self.take(rt);
@@ -172,7 +180,7 @@ impl<L: Named> Screen<L> {
             match attempt {
                 Attempt::Done { place, answer } => return Ok((place, answer)),
                 Attempt::NoMemory => return Err(AllocError),
-                Attempt::Late => {}
+                Attempt::Unfit | Attempt::Late => {}
             }
         }
         unreachable!()
@@ -187,7 +195,9 @@ impl<L: Named> Screen<L> {
         slot: Option<u32>,
         step: u32,
     ) -> Result<(u64, Result<u32, CloseRefusal>), AllocError>
-        ensures { IsClosed result L.spec actor.old actor.new slot step }
+        ensures closed { IsClosed result L.spec actor.old actor.new slot step }
+        ensures wants { OnErr result (MayGrant L.spec L.parts actor.old step
+            (λ h. IsOk (closing h slot))) }
     {
         for _ in rt.forever() {
             let (guard, painter) = self.take(rt);
@@ -196,7 +206,7 @@ impl<L: Named> Screen<L> {
             match attempt {
                 Attempt::Done { place, answer } => return Ok((place, answer)),
                 Attempt::NoMemory => return Err(AllocError),
-                Attempt::Late => {}
+                Attempt::Unfit | Attempt::Late => {}
             }
         }
         unreachable!()
@@ -204,7 +214,7 @@ impl<L: Named> Screen<L> {
 
     /// A list of the board with at least so many entries. It waits for as long as there are fewer.
     pub fn tell<R: Wait>(&self, rt: &R, at_least: u64) -> Told<L>
-        ensures { at_least ≤ length result }
+        ensures least { at_least ≤ length result }
     {
         for _ in rt.forever() {
             let (guard, painter) = self.take(rt);

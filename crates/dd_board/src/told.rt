@@ -122,7 +122,7 @@ impl<L: Named> Told<L> {
 
     /// An equal one.
     pub fn again(&self) -> Told<L>
-        ensures { result ≡ self.now }
+        ensures same { result ≡ self.now }
     {
         Told {
             len: self.len,

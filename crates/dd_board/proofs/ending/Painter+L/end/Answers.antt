@@ -24,7 +24,7 @@ returns-then-ended g c =
       c.before_end.ensures ∙ ap (λ (h : History). before_end h.entries) c.log.ensures,
     ) in
     let P : List Entry → Type 0 = λ l. (c.args.at_least ≤ before_end l) × HasEnded g.L.Ledger.parts l in
-    subst P (sym (c.again-told.ensures ∙ c.told-then-ended.ensures))
+    subst P (sym (c.again-told.ensures.same ∙ c.told-then-ended.ensures))
     (least, has_ended spec g.L.Ledger.parts es is seated ended)
 
 pub print-press-requires-clause-may : goal.print-press-requires-clause-may
