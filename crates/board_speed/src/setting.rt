@@ -1,6 +1,6 @@
 //! The screen, and what is drawn on it.
 
-ghost use Rattle.std.specs.Prelude.{◌≡◌, ◌+◌, ◌≤◌, IfOk, vec_len};
+ghost use Rattle.std.specs.Prelude.{◌≡◌, ◌+◌, ◌<◌, ◌≤◌, ◌^◌, IfOk, vec_len};
 ghost use Rattle.dd_log.specs.declared.events.TheConstants.{MAX_CAPACITY};
 
 use dd_calls::Role;

@@ -3,6 +3,7 @@
 ghost use Rattle.std.specs.Prelude.{◌≡◌, ◌≤◌, ◌<◌, IsTrue};
 ghost use Rattle.dd_geom.specs.Rect.{is_inside};
 ghost use Rattle.dd_geom.specs.Grid.{SameSize};
+ghost use Rattle.dd_grid.specs.declared.cell.TheConstants.{COLOURS};
 
 use crate::drawer::MODE;
 use anyhow::{Context, bail};
@@ -17,6 +18,16 @@ pub struct Picture {
     surface: Surface,
 }
 
+/// The colour of a point.
+fn colour_at(surface: &Surface, x: u32, y: u32) -> u32
+    requires x { x < surface.now.width }
+    requires y { y < surface.now.height }
+    ensures { result < COLOURS }
+{
+    prove!(x < surface.width());
+    surface.row(y)[x as usize]
+}
+
 /// Copies the points of a rectangle.
 fn copy(to: &mut Surface, from: &Surface, r: Rect)
     requires to { IsTrue (is_inside r to.old.width to.old.height) }
@@ -25,9 +36,9 @@ fn copy(to: &mut Surface, from: &Surface, r: Rect)
 {
     let sides = sides_of(r);
     for y in sides.top..sides.bottom {
-        let row = from.row(y as u32);
         for x in sides.left..sides.right {
-            to.set(x as u32, y as u32, row[x]);
+            let (x, y) = (x as u32, y as u32);
+            to.set(x, y, colour_at(from, x, y));
         }
     }
 }
