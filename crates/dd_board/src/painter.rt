@@ -46,8 +46,6 @@ pub type Painter<L> = PainterOf<L, Published<L>>;
 #[derive(Drop)]
 pub(crate) enum Entering {
     Made,
-    /// The list was longer already. In truth it never is.
-    Late,
     NoMemory,
 }
 
@@ -58,8 +56,6 @@ pub(crate) enum Attempt<A> {
     Done { place: u64, answer: A },
     /// The list didn't fit the seat. In truth it always does.
     Unfit,
-    /// The list was longer already. In truth it never is.
-    Late,
     NoMemory,
 }
 
@@ -69,7 +65,6 @@ pub(crate) fn attempt_of<A: Drop>(entering: Entering, place: u64, answer: A) -> 
 {
     match entering {
         Entering::Made => Attempt::Done { place, answer },
-        Entering::Late => Attempt::Late,
         Entering::NoMemory => Attempt::NoMemory,
     }
 }
@@ -119,7 +114,6 @@ impl<L: Named> Painter<L> {
                 actor.enter(&mut book, told);
                 Entering::Made
             }
-            Printed::Late => Entering::Late,
             Printed::NoMemory => Entering::NoMemory,
         };
         (PainterOf { press, book }, entering)
