@@ -268,7 +268,7 @@ impl<L: Named> Screen<L> {
             match copied {
                 Copied::Made(listed) => return Ok(listed),
                 Copied::NoMemory => return Err(AllocError),
-                Copied::Late => {}
+                Copied::Unfit => {}
             }
         }
         unreachable!()
