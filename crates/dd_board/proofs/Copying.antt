@@ -5,6 +5,7 @@ use Rattle.dd_log.specs.declared.events.Entry.{Entry}
 use Rattle.dd_board.specs.declared.listing.Copied.{Copied}
 use Rattle.dd_board.specs.Copied.{IsCopied}
 
-pub copied_is : {L : Type 0} (p q : Copied L) (spec : Spec) (longest : List Entry) (amount : ℕ) → p ≡ q
-    → IsCopied p spec longest amount → IsCopied q spec longest amount
-copied_is {L = L} p q spec longest amount is h = subst (λ (x : Copied L). IsCopied x spec longest amount) is h
+pub copied_is : {L : Type 0} (p q : Copied L) (spec : Spec) (longest : List Entry) (amount : ℕ) (es : List Entry)
+    → p ≡ q → IsCopied p spec longest amount es → IsCopied q spec longest amount es
+copied_is {L = L} p q spec longest amount es is h =
+    subst (λ (x : Copied L). IsCopied x spec longest amount es) is h

@@ -14,7 +14,7 @@ use Rattle.dd_dup.specs.Reply.{Memory, fresh_memory}
 use Rattle.dd_dup.specs.Stands.{StandsOnceOpened}
 use Rattle.dd_board.specs.declared.holding.Holding.{Holding}
 use Rattle.dd_board.specs.declared.painter.Entering.{Entering}
-use Rattle.dd_board.specs.declared.painter.Entering.TheVariants.{Made, Late, NoMemory}
+use Rattle.dd_board.specs.declared.painter.Entering.TheVariants.{Made, NoMemory}
 use Rattle.dd_board.specs.declared.painter.Attempt.{Attempt}
 use Rattle.dd_board.specs.declared.painter.Attempt.TheVariants.{Done}
 use Rattle.dd_board.specs.Lists.{listed}
@@ -88,7 +88,6 @@ pub opening_went : (went : Entering) (spec : Spec) (old new : Seated) (es later 
     → IsOpening (attempt_of went place (Ok x)) spec old new app step
 opening_went Made spec old new es later place number app step x begins is own went answer fresh stands =
     opened spec old new es place number app step x begins is own (went.1 ∙ ap (entering old) went.0) answer fresh stands
-opening_went Late spec old new es later place number app step x begins is own went answer fresh stands = went.1
 opening_went NoMemory spec old new es later place number app step x begins is own went answer fresh stands = went.1
 
 pub opening_is : (p q : Attempt (Result Holding OpenRefusal)) (spec : Spec) (old new : Seated) (app step : ℕ)
@@ -125,7 +124,6 @@ pub closing_went : (went : Entering) (spec : Spec) (old new : Seated) (es later 
     → IsClosing (attempt_of went place (Ok slot)) spec old new asked step
 closing_went Made spec old new es later place number step slot asked begins is own went answer =
     closed spec old new es place number step slot asked begins is own (went.1 ∙ ap (entering old) went.0) answer
-closing_went Late spec old new es later place number step slot asked begins is own went answer = went.1
 closing_went NoMemory spec old new es later place number step slot asked begins is own went answer = went.1
 
 pub closing_is : (p q : Attempt (Result ℕ CloseRefusal)) (spec : Spec) (old new : Seated) (asked : Option ℕ) (step : ℕ)

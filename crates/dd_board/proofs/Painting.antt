@@ -6,7 +6,7 @@ use Rattle.dd_log.specs.declared.events.Spec.{Spec}
 use Rattle.dd_log.specs.declared.events.Entry.{Entry}
 use Rattle.dd_log.specs.History.{refusal, verdict}
 use Rattle.dd_board.specs.declared.painter.Entering.{Entering}
-use Rattle.dd_board.specs.declared.painter.Entering.TheVariants.{Made, Late, NoMemory}
+use Rattle.dd_board.specs.declared.painter.Entering.TheVariants.{Made, NoMemory}
 use Rattle.dd_board.specs.declared.painter.Attempt.{Attempt}
 use Rattle.dd_board.specs.declared.painter.Attempt.TheVariants.{Done}
 use Rattle.dd_board.specs.Lists.{listed}
@@ -50,5 +50,4 @@ pub drawing_went : (went : Entering) (spec : Spec) (old new : Seated) (es later 
     → Ok tt ≡ verdict (refusal (listed spec es) e.event) → IsDrawing (attempt_of went place (Ok tt)) spec old new e
 drawing_went Made spec old new es later e place begins is went told =
     drawn spec old new es e place begins is (went.1 ∙ ap (entering old) went.0) told
-drawing_went Late spec old new es later e place begins is went told = went.1
 drawing_went NoMemory spec old new es later e place begins is went told = went.1

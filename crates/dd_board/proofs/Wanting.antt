@@ -5,7 +5,7 @@ use Rattle.dd_log.specs.declared.events.Spec.{Spec}
 use Rattle.dd_log.specs.declared.events.Entry.{Entry}
 use Rattle.dd_log.specs.History.{History, legal}
 use Rattle.dd_board.specs.declared.painter.Entering.{Entering}
-use Rattle.dd_board.specs.declared.painter.Entering.TheVariants.{Made, Late, NoMemory}
+use Rattle.dd_board.specs.declared.painter.Entering.TheVariants.{Made, NoMemory}
 use Rattle.dd_board.specs.declared.painter.Attempt.{Attempt}
 use Rattle.dd_board.specs.declared.painter.Attempt.TheVariants as attempts
 use Rattle.dd_board.specs.Lists.{listed, all_seated}
@@ -29,7 +29,6 @@ may_grant spec seats s step IsGranted told es is legal_told seated_told fits gra
 want_went : {A : Type 0} (went : Entering) (place : ℕ) (answer : A) (holds : Type 0)
     → holds → OnWant (attempt_of went place answer) holds
 want_went Made place answer holds h = tt
-want_went Late place answer holds h = tt
 want_went NoMemory place answer holds h = h
 
 pub want_of : {A : Type 0} (went : Entering) (place : ℕ) (answer : A) (holds : Type 0) (p : Attempt A)

@@ -15,7 +15,7 @@ use Rattle.dd_board.specs.Holding.{MayHold}
 use Rattle.dd_board.specs.Openings.{opening_entry, closing_entry}
 use Rattle.dd_board.specs.declared.holding.Holding.{Holding}
 use Rattle.dd_board.specs.declared.painter.Attempt.{Attempt}
-use Rattle.dd_board.specs.declared.painter.Attempt.TheVariants.{Done, Unfit, Late, NoMemory}
+use Rattle.dd_board.specs.declared.painter.Attempt.TheVariants.{Done, Unfit, NoMemory}
 
 -- the slot of what was opened
 abbrev pub slot_in : Result Holding OpenRefusal → Result ℕ OpenRefusal
@@ -34,7 +34,6 @@ IsOpening (Done place answer) spec old new app step =
     × IsCall old new place (opening_entry (slot_in answer) old.number step app)
     × IsFresh answer (listed spec (take place new.view)) place (listed spec new.view)
 IsOpening Unfit spec old new app step = new ≡ old
-IsOpening Late spec old new app step = new ≡ old
 IsOpening NoMemory spec old new app step = new ≡ old
 
 -- and so is a closing of a slot, where there is one
@@ -43,7 +42,6 @@ IsClosing (Done place answer) spec old new slot step =
     (answer ≡ closing (listed spec (take place new.view)) slot)
     × IsCall old new place (closing_entry answer old.number step)
 IsClosing Unfit spec old new slot step = new ≡ old
-IsClosing Late spec old new slot step = new ≡ old
 IsClosing NoMemory spec old new slot step = new ≡ old
 
 -- the same, once the list fitted the seat

@@ -7,7 +7,7 @@ use Rattle.dd_log.specs.History.{History, desk, legal, last_step}
 use Rattle.dd_board.specs.Lists.{listed, all_seated}
 use Rattle.dd_board.specs.Seats.{Seated}
 use Rattle.dd_board.specs.declared.painter.Attempt.{Attempt}
-use Rattle.dd_board.specs.declared.painter.Attempt.TheVariants.{Done, Unfit, Late, NoMemory}
+use Rattle.dd_board.specs.declared.painter.Attempt.TheVariants.{Done, Unfit, NoMemory}
 
 -- a list begins with what a seat saw, and a step is past the last one that the seat has there
 abbrev pub Fits : List Entry → Seated → ℕ → Type 0
@@ -31,12 +31,10 @@ pub record MayGrant (spec : Spec) (seats : ℕ) (s : Seated) (step : ℕ) (IsGra
 abbrev pub OnUnfit : {A : Type 0} → Attempt A → Type 0 → Type 0
 OnUnfit (Done place answer) holds = Unit {0}
 OnUnfit Unfit holds = holds
-OnUnfit Late holds = Unit {0}
 OnUnfit NoMemory holds = Unit {0}
 
 -- and where memory was wanting
 abbrev pub OnWant : {A : Type 0} → Attempt A → Type 0 → Type 0
 OnWant (Done place answer) holds = Unit {0}
 OnWant Unfit holds = Unit {0}
-OnWant Late holds = Unit {0}
 OnWant NoMemory holds = holds

@@ -19,21 +19,23 @@ fn before_end(log: &Log) -> u64
 }
 
 impl<L: Named> Painter<L> {
-    /// The list with its end, once so many entries stand before it.
-    pub(crate) fn end<R: Wait>(self, rt: &R, seats: u32, at_least: u64) -> (Painter<L>, Printed<L>)
+    /// The list with its end; none where fewer entries stand before it than are asked.
+    pub(crate) fn end<R: Wait>(
+        self,
+        rt: &R,
+        seats: u32,
+        at_least: u64,
+    ) -> (Painter<L>, Option<Printed<L>>)
         requires { seats ≡ L.parts }
-        ensures { IsEnding result.1 L.parts at_least }
+        ensures { IsEnding result.1 L.parts at_least self }
     {
         let _front = self.told().front();
         if before_end(self.log()) < at_least {
-            return (self, Printed::Late);
+            return (self, None);
         }
         if self.log().ended() {
             let told = self.told().again();
-            return (self, Printed::Made(told));
-        }
-        if self.log().last_step(seats) >= 1 {
-            return (self, Printed::Late);
+            return (self, Some(Printed::Made(told)));
         }
         let entry = Entry {
             actor: seats,
@@ -42,6 +44,6 @@ impl<L: Named> Painter<L> {
         };
         let PainterOf { press, book } = self;
         let (press, printed) = press.print(rt, &entry);
-        (PainterOf { press, book }, printed)
+        (PainterOf { press, book }, Some(printed))
     }
 }

@@ -24,8 +24,8 @@ pub struct FullList<L: Named> {
 #[derive(Drop)]
 pub(crate) enum Copied<L: Named> {
     Made(FullList<L>),
-    /// The list was shorter than what a seat saw. In truth it never is.
-    Late,
+    /// The list didn't begin with what a seat saw. In truth it always does.
+    Unfit,
     NoMemory,
 }
 
@@ -65,10 +65,10 @@ impl<L: Named> Painter<L> {
         requires { share.old.parts ≡ L.parts }
         ensures parts { share.new.parts ≡ share.old.parts }
         ensures amount { share.new.amount ≡ share.old.amount }
-        ensures copied { IsCopied result.1 L.spec longest.now share.old.amount }
+        ensures copied { IsCopied result.1 L.spec longest.now share.old.amount self }
     {
         if !self.told().covers(longest) {
-            return (self, Copied::Late);
+            return (self, Copied::Unfit);
         }
         let Ok(log) = self.log().copy() else {
             return (self, Copied::NoMemory);

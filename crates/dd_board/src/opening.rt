@@ -41,16 +41,7 @@ impl<L: Named> Painter<L> {
         let place = self.told().front();
         let slot = match may_open(self.log(), app) {
             Ok(slot) => slot,
-            Err(cause) => {
-                actor.see(self.told().again());
-                return (
-                    self,
-                    Attempt::Done {
-                        place,
-                        answer: Err(cause),
-                    },
-                );
-            }
+            Err(cause) => return self.refused(actor, place, Err(cause)),
         };
         let Ok(dup) = Dup::start(alloc, self.log(), place) else {
             return (self, Attempt::NoMemory);
@@ -99,16 +90,7 @@ impl<L: Named> Painter<L> {
         let place = self.told().front();
         let slot = match may_close(self.log(), slot) {
             Ok(slot) => slot,
-            Err(cause) => {
-                actor.see(self.told().again());
-                return (
-                    self,
-                    Attempt::Done {
-                        place,
-                        answer: Err(cause),
-                    },
-                );
-            }
+            Err(cause) => return self.refused(actor, place, Err(cause)),
         };
         let entry = Entry {
             actor: actor.number(),

@@ -6,6 +6,8 @@ ghost use Rattle.dd_log.specs.Desk.{finds_slot};
 ghost use Rattle.dd_log.specs.History.{desk, is_end, last_step, refusal};
 ghost use Rattle.dd_board.specs.Lists.{listed};
 ghost use Rattle.dd_board.specs.Painting.{IsEntering, IsDrawing, attempt_of as went};
+ghost use Rattle.dd_board.specs.Seats.{seeing};
+ghost use Rattle.dd_board.specs.declared.painter.Attempt.TheVariants.{Done};
 ghost use Rattle.dd_board.specs.Wanting.{Fits, MayGrant, OnUnfit, OnWant};
 
 use crate::actor::Actor;
@@ -46,8 +48,6 @@ pub type Painter<L> = PainterOf<L, Published<L>>;
 #[derive(Drop)]
 pub(crate) enum Entering {
     Made,
-    /// The list was longer already. In truth it never is.
-    Late,
     NoMemory,
 }
 
@@ -58,8 +58,6 @@ pub(crate) enum Attempt<A> {
     Done { place: u64, answer: A },
     /// The list didn't fit the seat. In truth it always does.
     Unfit,
-    /// The list was longer already. In truth it never is.
-    Late,
     NoMemory,
 }
 
@@ -69,7 +67,6 @@ pub(crate) fn attempt_of<A: Drop>(entering: Entering, place: u64, answer: A) -> 
 {
     match entering {
         Entering::Made => Attempt::Done { place, answer },
-        Entering::Late => Attempt::Late,
         Entering::NoMemory => Attempt::NoMemory,
     }
 }
@@ -119,10 +116,23 @@ impl<L: Named> Painter<L> {
                 actor.enter(&mut book, told);
                 Entering::Made
             }
-            Printed::Late => Entering::Late,
             Printed::NoMemory => Entering::NoMemory,
         };
         (PainterOf { press, book }, entering)
+    }
+
+    /// A call that the list refuses: the seat has seen that list then.
+    pub(crate) fn refused<A>(
+        self,
+        actor: &mut Actor<L>,
+        place: u64,
+        answer: A,
+    ) -> (Painter<L>, Attempt<A>)
+        ensures seen { actor.new ≡ seeing actor.old self }
+        ensures done { result.1 ≡ Done place answer }
+    {
+        actor.see(self.told().again());
+        (self, Attempt::Done { place, answer })
     }
 
     /// A drawing of a seat.
@@ -145,14 +155,7 @@ impl<L: Named> Painter<L> {
         }
         let place = self.told().front();
         if let Err(cause) = self.log().allows(&entry.event) {
-            actor.see(self.told().again());
-            return (
-                self,
-                Attempt::Done {
-                    place,
-                    answer: Err(cause),
-                },
-            );
+            return self.refused(actor, place, Err(cause));
         }
         let (painter, entering) = self.enter(rt, actor, entry);
         (painter, attempt_of(entering, place, Ok(())))

@@ -1,6 +1,6 @@
 //! Where entries are published.
 
-ghost use Rattle.std.specs.Prelude.{◌≡◌, IsTrue};
+ghost use Rattle.std.specs.Prelude.{◌≡◌, ◌++◌, ◌∷◌, [], IsTrue};
 ghost use Rattle.dd_log.specs.History.{may_add};
 ghost use Rattle.dd_board.specs.Lists.{listed, is_seated};
 ghost use Rattle.dd_board.specs.Press.{IsPrinted};
@@ -40,8 +40,6 @@ pub type Press<L> = PressOf<L, Published<L>>;
 pub(crate) enum Printed<L: Named> {
     /// It is the last entry now.
     Made(Told<L>),
-    /// The list was longer already. In truth it never is.
-    Late,
     NoMemory,
 }
 
@@ -109,6 +107,21 @@ impl<L: Named> Press<L> {
         unreachable!()
     }
 
+    /// The list with an entry more, which in truth is had at once: nobody else makes the one list
+    /// longer.
+    fn lengthened<R: Wait>(&self, rt: &R, entry: &Entry) -> Told<L>
+        requires may { IsTrue (may_add (listed L.spec self.now) entry.now) }
+        requires seat { IsTrue (is_seated L.parts entry.now) }
+        ensures { result ≡ self.now ++ entry.now ∷ [] }
+    {
+        for _ in rt.forever() {
+            if let Some(told) = self.told().extended(&self.head, entry) {
+                return told;
+            }
+        }
+        unreachable!()
+    }
+
     /// Publishes an entry. All memory is taken before the list is longer.
     pub(crate) fn print<R: Wait>(self, rt: &R, entry: &Entry) -> (Press<L>, Printed<L>)
         requires may { IsTrue (may_add (listed L.spec self) entry.now) }
@@ -121,9 +134,7 @@ impl<L: Named> Press<L> {
         let Ok(second) = entry.copy() else {
             return (self, Printed::NoMemory);
         };
-        let Some(told) = self.told().extended(&self.head, entry) else {
-            return (self, Printed::Late);
-        };
+        let told = self.lengthened(rt, entry);
         let press = self.hand(rt, Op::of(first, second, &told));
         (press.show(rt, &told), Printed::Made(told))
     }

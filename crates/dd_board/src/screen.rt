@@ -120,7 +120,7 @@ impl<L: Named> Screen<L> {
             match attempt {
                 Attempt::Done { place, answer } => return Ok((place, answer)),
                 Attempt::NoMemory => return Err(AllocError),
-                Attempt::Unfit | Attempt::Late => {}
+                Attempt::Unfit => {}
             }
         }
         unreachable!()
@@ -180,7 +180,7 @@ impl<L: Named> Screen<L> {
             match attempt {
                 Attempt::Done { place, answer } => return Ok((place, answer)),
                 Attempt::NoMemory => return Err(AllocError),
-                Attempt::Unfit | Attempt::Late => {}
+                Attempt::Unfit => {}
             }
         }
         unreachable!()
@@ -206,7 +206,7 @@ impl<L: Named> Screen<L> {
             match attempt {
                 Attempt::Done { place, answer } => return Ok((place, answer)),
                 Attempt::NoMemory => return Err(AllocError),
-                Attempt::Unfit | Attempt::Late => {}
+                Attempt::Unfit => {}
             }
         }
         unreachable!()
@@ -240,9 +240,9 @@ impl<L: Named> Screen<L> {
             let (painter, printed) = painter.end(rt, self.seats.get(), at_least);
             give_back(guard, painter);
             match printed {
-                Printed::Made(told) => return Ok(told),
-                Printed::NoMemory => return Err(AllocError),
-                Printed::Late => {}
+                Some(Printed::Made(told)) => return Ok(told),
+                Some(Printed::NoMemory) => return Err(AllocError),
+                None => {}
             }
         }
         unreachable!()
@@ -268,7 +268,7 @@ impl<L: Named> Screen<L> {
             match copied {
                 Copied::Made(listed) => return Ok(listed),
                 Copied::NoMemory => return Err(AllocError),
-                Copied::Late => {}
+                Copied::Unfit => {}
             }
         }
         unreachable!()

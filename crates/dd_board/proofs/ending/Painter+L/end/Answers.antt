@@ -1,7 +1,7 @@
-use Rattle.std.proofs.Common.{◌≡◌, ◌<◌, ◌≤◌, ◌∙◌, ℕ, List, true, false, refl, sym, ap, subst, arith}
+use Rattle.std.proofs.Common.{◌≡◌, ◌≤◌, ◌∙◌, ℕ, List, true, false, refl, sym, ap, subst, arith}
 use Rattle.std.specs.Prelude.{IsTrue}
 use Rattle.dd_log.specs.declared.events.Entry.{Entry}
-use Rattle.dd_log.specs.History.{History, desk, last_step, legal, may_add, before_end, end_of}
+use Rattle.dd_log.specs.History.{History, desk, legal, may_add, before_end, end_of}
 use Rattle.dd_board.specs.Lists.{listed, all_seated}
 use Rattle.dd_board.specs.Ending.{HasEnded}
 use Rattle.dd_board.proofs.Endings.{has_ended, printed_by, may_be_ended, end_counts, end_total, ending}
@@ -34,14 +34,11 @@ print-press-requires-clause-may g c =
     let es = c.args.self in
     let goes : (desk (listed spec es)).ended ≡ false =
     sym (c.ended.ensures.value ∙ ap (λ (h : History). (desk h).ended) c.log-2.ensures) ∙ c.if-ended.false in
-    let past : last_step es seats < 1 =
-    omega (
-      arith,
-      c.if-last_step-ge1.false,
-      c.last_step.ensures ∙ ap (λ (h : History). last_step h.entries c.args.seats) c.log-3.ensures
-          ∙ ap (last_step es) c.requires,
-    ) in
-    let may = may_be_ended spec seats es c.front-front.ensures.seats past goes in
+    let is : IsTrue (legal (listed spec es)) =
+    ap (λ l. legal (listed spec l)) (sym c.told.ensures) ∙ c.front-front.ensures.legal in
+    let seated : IsTrue (all_seated seats es) =
+    ap (all_seated seats) (sym c.told.ensures) ∙ c.front-front.ensures.seated in
+    let may = may_be_ended spec seats es c.front-front.ensures.seats is seated goes in
     subst (λ (n : ℕ). IsTrue (may_add (listed spec c.self.inside.press) (end_of n 1))) (sym c.requires)
     (subst (λ (l : List Entry). IsTrue (may_add (listed spec l) (end_of seats 1))) (sym c.self.view_is) may)
 
@@ -52,16 +49,11 @@ invariant_of-result g c =
     let es = c.args.self in
     let goes : (desk (listed spec es)).ended ≡ false =
     sym (c.ended.ensures.value ∙ ap (λ (h : History). (desk h).ended) c.log-2.ensures) ∙ c.if-ended.false in
-    let past : last_step es seats < 1 =
-    omega (
-      arith,
-      c.if-last_step-ge1.false,
-      c.last_step.ensures ∙ ap (λ (h : History). last_step h.entries c.args.seats) c.log-3.ensures
-          ∙ ap (last_step es) c.requires,
-    ) in
-    let may = may_be_ended spec seats es c.front-front.ensures.seats past goes in
     let is : IsTrue (legal (listed spec es)) =
     ap (λ l. legal (listed spec l)) (sym c.told.ensures) ∙ c.front-front.ensures.legal in
+    let seated : IsTrue (all_seated seats es) =
+    ap (all_seated seats) (sym c.told.ensures) ∙ c.front-front.ensures.seated in
+    let may = may_be_ended spec seats es c.front-front.ensures.seats is seated goes in
     let printed = printed_by c.print-press.result.1 c.self.inside.press es c.print-press.result.0 c.args.seats seats
     c.self.view_is c.requires c.print-press.ensures in
     c.self.invariant ∙ ap before_end c.self.view_is
@@ -75,16 +67,11 @@ returns g c =
     let es = c.args.self in
     let goes : (desk (listed spec es)).ended ≡ false =
     sym (c.ended.ensures.value ∙ ap (λ (h : History). (desk h).ended) c.log-2.ensures) ∙ c.if-ended.false in
-    let past : last_step es seats < 1 =
-    omega (
-      arith,
-      c.if-last_step-ge1.false,
-      c.last_step.ensures ∙ ap (λ (h : History). last_step h.entries c.args.seats) c.log-3.ensures
-          ∙ ap (last_step es) c.requires,
-    ) in
-    let may = may_be_ended spec seats es c.front-front.ensures.seats past goes in
     let is : IsTrue (legal (listed spec es)) =
     ap (λ l. legal (listed spec l)) (sym c.told.ensures) ∙ c.front-front.ensures.legal in
+    let seated : IsTrue (all_seated seats es) =
+    ap (all_seated seats) (sym c.told.ensures) ∙ c.front-front.ensures.seated in
+    let may = may_be_ended spec seats es c.front-front.ensures.seats is seated goes in
     let least : c.args.at_least ≤ before_end es =
     omega (
       arith,

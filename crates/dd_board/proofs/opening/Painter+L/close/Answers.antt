@@ -1,18 +1,17 @@
 use Rattle.std.proofs.Common.{◌∙◌, Ok, length, ap}
 use Rattle.std.specs.Prelude.{IsOk}
 use Rattle.dd_table.specs.Opening.{closing}
-use Rattle.dd_board.specs.Seats.{seeing}
 use Rattle.dd_board.proofs.Openings.{not_closed, closing_went, closing_is}
 use Rattle.dd_board.proofs.Wanting.{may_grant, want_of, ok_is}
 use Rattle.dd_board.proofs.opening.Painter+L.close.Goals as goal
 
 pub returns-in-Err-clause-closing : goal.returns-in-Err-clause-closing
 returns-in-Err-clause-closing g c =
-    not_closed g.L.Named.spec c.args.actor.now c.see.new.self c.args.self c.front-place.result c.args.step
+    closing_is _ _ g.L.Named.spec c.args.actor.now c.refused.new.actor c.args.slot c.args.step c.refused.ensures.done
+    (not_closed g.L.Named.spec c.args.actor.now c.refused.new.actor c.args.self c.front-place.result c.args.step
     c.in-Err.cause c.args.slot (c.fits.ensures.0 c.if-not-fits.false).0
-    (c.front-place.ensures.length ∙ ap length c.told.ensures)
-    (c.see.ensures ∙ ap (seeing c.args.actor.now) (c.again.ensures.same ∙ c.told-in-Err.ensures))
-    (c.in-Err.ensures ∙ ap (λ h. closing h c.args.slot) c.log.ensures)
+    (c.front-place.ensures.length ∙ ap length c.told.ensures) c.refused.ensures.seen
+    (c.in-Err.ensures ∙ ap (λ h. closing h c.args.slot) c.log.ensures))
 
 pub returns-clause-closing : goal.returns-clause-closing
 returns-clause-closing g c =

@@ -5,18 +5,17 @@ use Rattle.dd_dup.specs.Reply.{fresh_memory}
 use Rattle.dd_dup.specs.Stands.{StandsOnceOpened}
 use Rattle.dd_log.specs.History.{History}
 use Rattle.dd_board.specs.declared.holding.Holding.{Holding}
-use Rattle.dd_board.specs.Seats.{seeing}
 use Rattle.dd_board.proofs.Openings.{not_opened, opening_went, opening_is}
 use Rattle.dd_board.proofs.Wanting.{may_grant, want_of, ok_is}
 use Rattle.dd_board.proofs.opening.Painter+L.open.Goals as goal
 
 pub returns-in-Err-clause-opening : goal.returns-in-Err-clause-opening
 returns-in-Err-clause-opening g c =
-    not_opened g.L.Named.spec c.args.actor.now c.see.new.self c.args.self c.front-place.result c.args.app c.args.step
-    c.in-Err.cause (c.fits.ensures.0 c.if-not-fits.false).0
-    (c.front-place.ensures.length ∙ ap length c.told.ensures)
-    (c.see.ensures ∙ ap (seeing c.args.actor.now) (c.again.ensures.same ∙ c.told-in-Err.ensures))
-    (c.in-Err.ensures.value ∙ ap (λ h. opening h c.args.app) c.log.ensures)
+    opening_is _ _ g.L.Named.spec c.args.actor.now c.refused.new.actor c.args.app c.args.step c.refused.ensures.done
+    (not_opened g.L.Named.spec c.args.actor.now c.refused.new.actor c.args.self c.front-place.result c.args.app
+    c.args.step c.in-Err.cause (c.fits.ensures.0 c.if-not-fits.false).0
+    (c.front-place.ensures.length ∙ ap length c.told.ensures) c.refused.ensures.seen
+    (c.in-Err.ensures.value ∙ ap (λ h. opening h c.args.app) c.log.ensures))
 
 pub returns-clause-opening : goal.returns-clause-opening
 returns-clause-opening g c =

@@ -1,6 +1,5 @@
 use Rattle.std.proofs.Common.{◌≡◌, ◌∙◌, None, Ok, length, ap}
 use Rattle.dd_log.specs.History.{refusal, verdict}
-use Rattle.dd_board.specs.Seats.{seeing}
 use Rattle.dd_board.proofs.Calls.{none_of_ok}
 use Rattle.dd_board.proofs.Painting.{drawing_is, drawing_went, not_drawn}
 use Rattle.dd_board.proofs.Wanting.{may_grant, want_of}
@@ -9,10 +8,10 @@ use Rattle.dd_board.proofs.painter.Painter+L.draw.Goals as goal
 pub returns-in-Err-clause-drawing : goal.returns-in-Err-clause-drawing
 returns-in-Err-clause-drawing g c =
     let e = c.args.entry.now in
-    not_drawn g.L.Named.spec c.args.actor.now c.see.new.self c.args.self e c.front-place.result c.in-Err.cause
+    drawing_is _ _ g.L.Named.spec c.args.actor.now c.refused.new.actor e c.refused.ensures.done
+    (not_drawn g.L.Named.spec c.args.actor.now c.refused.new.actor c.args.self e c.front-place.result c.in-Err.cause
     (c.fits.ensures.0 c.if-not-fits.false).0 (c.front-place.ensures.length ∙ ap length c.told.ensures)
-    (c.see.ensures ∙ ap (seeing c.args.actor.now) (c.again.ensures.same ∙ c.told-in-Err.ensures))
-    (c.in-Err.ensures ∙ ap (λ h. verdict (refusal h e.event)) c.log.ensures)
+    c.refused.ensures.seen (c.in-Err.ensures ∙ ap (λ h. verdict (refusal h e.event)) c.log.ensures))
 
 pub returns-clause-drawing : goal.returns-clause-drawing
 returns-clause-drawing g c =

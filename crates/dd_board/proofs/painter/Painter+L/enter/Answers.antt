@@ -7,7 +7,7 @@ use Rattle.dd_board.proofs.Calls.{seat_may_add, seat_is_seated}
 use Rattle.dd_board.proofs.Counts.{one_more, before_few}
 use Rattle.dd_board.proofs.Painting.{printed_is}
 use Rattle.dd_board.proofs.painter.Painter+L.enter.Goals as goal
-use Rattle.dd_board.proofs.painter.Painter+L.enter.Goals.{in-Made, in-Late, in-NoMemory}
+use Rattle.dd_board.proofs.painter.Painter+L.enter.Goals.{in-Made, in-NoMemory}
 
 pub print-press-requires-clause-may : goal.print-press-requires-clause-may
 print-press-requires-clause-may g c =
@@ -45,9 +45,6 @@ invariant_of-result g c =
           ap (λ b. b.total) w.book-is ∙ w.enter.ensures.book ∙ ap (λ n. n + 1) c.self.invariant
           ∙ sym (one_more g.L.Named.spec es e is may c.requires.kind)
           ∙ ap before_end (sym (printed_is _ _ es c.print-press.result.0 e w.in-Made.is c.print-press.ensures).0)
-      | in-Late w ↦
-          ap (λ b. b.total) w.book-is ∙ c.self.invariant
-          ∙ ap before_end (sym (printed_is _ _ es c.print-press.result.0 e w.in-Late.is c.print-press.ensures))
       | in-NoMemory w ↦
           ap (λ b. b.total) w.book-is ∙ c.self.invariant
           ∙ ap before_end (sym (printed_is _ _ es c.print-press.result.0 e w.in-NoMemory.is c.print-press.ensures))
