@@ -102,9 +102,9 @@ fn presented(alloc: Global, station: &mut Station) -> Result<u32, Fail>
 #[test]
 fn long_list(rt: HostRuntime) -> Result<(), Fail> {
     let mut station = opened(rt.alloc(), PRESENTS + 2)?;
-    for before in 0..PRESENTS {
+    for made in 0..PRESENTS {
         let presents = presented(rt.alloc(), &mut station)?;
-        assert_eq!(rt; presents, 1, "present {before}");
+        assert_eq!(rt; presents, 1, "present {made}");
     }
     let folded = station.dup(1).map(|dup| dup.folded());
     assert_eq!(rt; folded, Some(200_001));
