@@ -22,9 +22,10 @@ enum Part {
 ///
 /// Its lines are, in this order: `case NAME`; `word WORD` for each word of the command; `status
 /// NAME`; `fails read N` or `fails write N`, where that device fails its N-th call; `piece N`, where
-/// the devices move N bytes in a call, and not 4,096; `writes DIGITS` or `md5 DIGITS`, where the output or its digest is told by hexadecimal digits; then `spaces N`,
-/// `bytes DIGITS`, `times N TEXT` for each part of the input, or `input` and the input's lines; then
-/// `output` and the output's lines.
+/// the devices move N bytes in a call, and not 4,096; `writes DIGITS` or `md5 DIGITS`, where the
+/// output or its digest is told by hexadecimal digits; then `spaces N`, `bytes DIGITS`, `times N
+/// TEXT` for each part of the input, or `input` and the input's lines; then `output` and the
+/// output's lines.
 #[derive(Debug, Drop)]
 pub struct Case {
     name: String,
